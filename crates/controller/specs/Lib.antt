@@ -1,0 +1,4 @@
+pub mod Calls
+pub mod Due
+pub mod Run
+pub mod Site
