@@ -1,0 +1,4 @@
+pub mod Days
+pub mod Apart
+pub mod Ends
+pub mod Clocks

@@ -1,0 +1,2 @@
+mod Shifts
+pub mod Appends
