@@ -9,8 +9,8 @@ use Rattle.rack.specs.declared.look.Shape.{Shape}
 use Rattle.rack.specs.Face.{Face, dark, has}
 use Rattle.records.specs.declared.frame.Frame.{Frame}
 use Rattle.records.specs.declared.store.Store.{Store}
-use Rattle.records.specs.Frames.{frameFace, frameShape}
-use Rattle.records.specs.Store.{storedFrame}
+use Rattle.records.specs.Frames.{frameFace, shapeShown}
+use Rattle.records.specs.Slots.{slotOf}
 use Rattle.controller.specs.declared.common.Common.{Common}
 use Rattle.controller.specs.declared.group.GroupRecord.{GroupRecord}
 use Rattle.controller.specs.declared.service.Controller.{Controller}
@@ -37,7 +37,7 @@ dueNumber r = cond (r .powered && r .enabled) (r .direct) None
 
 abbrev pub storedUnder : Store → Option ℕ → Option Frame
 storedUnder s None = None
-storedUnder s (Some n) = storedFrame s n
+storedUnder s (Some n) = slotOf (s .frames) n
 
 abbrev pub frameDue : View → Option Frame
 frameDue v = storedUnder (v .common .store) (dueNumber (v .group))
@@ -45,7 +45,7 @@ frameDue v = storedUnder (v .common .store) (dueNumber (v .group))
 -- A sign shows the frame that is due where it takes it, and is dark otherwise.
 abbrev pub shownBy : (Shape → Bool) → Option Frame → Option Frame
 shownBy takes None = None
-shownBy takes (Some f) = cond (takes (frameShape f)) (Some f) None
+shownBy takes (Some f) = cond (takes (shapeShown f)) (Some f) None
 
 abbrev pub faceOf : Option Frame → Face
 faceOf None = dark

@@ -1,4 +1,6 @@
 pub mod Calls
 pub mod Due
+pub mod Faults
 pub mod Run
 pub mod Site
+pub mod State

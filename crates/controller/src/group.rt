@@ -1,5 +1,5 @@
 ghost use mathlib.Core.Path.{_≡_};
-ghost use Rattle.controller.specs.Run.{openingGroup};
+ghost use Rattle.controller.specs.State.{openingGroup};
 
 // What is ordered of one group.
 #[derive(Clone, Copy)]

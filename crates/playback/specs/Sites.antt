@@ -7,7 +7,10 @@ use Rattle.rack.specs.declared.text.TextRack.{TextRack}
 use Rattle.rack.specs.Face.{dark, has}
 use Rattle.rack.specs.Bank.{bankFace}
 use Rattle.rack.specs.Text.{textTakes, textRackTakes}
+use Rattle.calendar.specs.Clocks.{started}
 use Rattle.controller.specs.Site.{Numbers, fresh, withSign}
+use Rattle.replies.specs.declared.logs.FaultEntry.{FaultEntry}
+use Rattle.replies.specs.declared.logs.FaultEvent.the-variants.{Clearance}
 
 pub record TwoTextSigns (r : TextRack) : Type 0 where
   pub signs : r .bank .count ≡ 2
@@ -16,3 +19,7 @@ pub record TwoTextSigns (r : TextRack) : Type 0 where
 
 abbrev pub twoGroups : Numbers
 twoGroups = withSign 2 (withSign 1 fresh)
+
+-- a place of the fault log's memory that holds no fault yet
+abbrev pub unused : FaultEntry
+unused = record { sign = 0; entry = 0; at = started .shown; code = 0; event = Clearance }

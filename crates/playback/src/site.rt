@@ -1,10 +1,14 @@
 ghost use mathlib.Core.Path.{_≡_};
 ghost use Rattle.std.specs.Results.{Cases};
 ghost use Rattle.controller.specs.Site.{numbersOf};
-ghost use Rattle.playback.specs.Sites.{TwoTextSigns, twoGroups};
+ghost use lib.ListN.{replicate};
+ghost use Rattle.playback.specs.Sites.{TwoTextSigns, twoGroups, unused};
+use calendar::Clock;
 use controller::commissioning::Commissioning;
 use rack::refusal::Refusal;
 use rack::text::TextRack;
+use replies::FaultEntry;
+use replies::FaultEvent;
 
 // The rack of the programs' site: two text signs of 16 characters.
 pub fn text_rack() -> Result<TextRack, Refusal>
@@ -24,4 +28,18 @@ pub fn commissioning() -> Result<Commissioning, Refusal>
     site.attach(1)?;
     site.attach(2)?;
     Ok(site)
+}
+
+// Memory for the fault log, not used yet.
+pub fn fault_memory() -> [FaultEntry; 20]
+    ensures { λ r. ⌜ r ≡ replicate 20 unused ⌝ }
+{
+    let unused = FaultEntry {
+        sign: 0,
+        entry: 0,
+        at: Clock::new().date_time(),
+        code: 0,
+        event: FaultEvent::Clearance,
+    };
+    [unused; 20]
 }

@@ -1,2 +1,7 @@
+pub mod AnyRecords
 pub mod Frames
-pub mod Store
+pub mod Messages
+pub mod Plans
+pub mod Slots
+pub mod Stores
+pub mod Writing

@@ -19,7 +19,8 @@ fn main(rt: LibcRuntime) -> Result<(), AnyError> {
     let Ok(commissioning) = site::commissioning() else {
         unreachable()
     };
-    let controller = run::serve(commissioning, &mut rack, calls.as_slice());
+    let mut faults = site::fault_memory();
+    let controller = run::serve(commissioning, &mut rack, calls.as_slice(), &mut faults);
     print_signs(&rt, &controller, &rack)
 }
 

@@ -1,0 +1,11 @@
+pub mod Back
+pub mod Days
+pub mod Keeping
+pub mod Laying
+pub mod Listing
+pub mod Looking
+pub mod Parts
+pub mod Rising
+pub mod Sharing
+pub mod Six
+pub mod Storing

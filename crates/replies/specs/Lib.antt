@@ -1,0 +1,9 @@
+pub mod Reply
+pub mod Dates
+pub mod List
+pub mod Verdict
+pub mod Status
+pub mod Logs
+pub mod Readings
+pub mod Plans
+pub mod Stored
