@@ -1,3 +1,4 @@
 pub mod Reaching
 pub mod Reports
 pub mod Shown
+pub mod Storing

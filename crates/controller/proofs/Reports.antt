@@ -8,8 +8,8 @@ use Rattle.controller.specs.Run.{reportVerdict, withReport}
 
 pub report-state : (v : View) (sign code : ℕ) (enough heard : Bool)
     → _≡_ {A = View}
-      (record { common = cond (isOk (reportVerdict enough heard)) (withReport sign code (v .common)) (v .common); group = v .group })
-      (cond enough (record { common = cond heard (withReport sign code (v .common)) (v .common); group = v .group }) v)
+    (record { common = cond (isOk (reportVerdict enough heard)) (withReport sign code (v .common)) (v .common); group = v .group })
+    (cond enough (record { common = cond heard (withReport sign code (v .common)) (v .common); group = v .group }) v)
 report-state v sign code true true = refl
 report-state v sign code true false = refl
 report-state v sign code false heard = refl

@@ -7,8 +7,15 @@ use analog::Reading;
 pub enum Call {
     Line(u8),
     Tick(u8),
-    Report { sign: u8, code: u8 },
-    Reading { slot: u8, reading: Reading, state: u8 },
+    Report {
+        sign: u8,
+        code: u8,
+    },
+    Reading {
+        slot: u8,
+        reading: Reading,
+        state: u8,
+    },
 }
 
 // Why a call was not made.

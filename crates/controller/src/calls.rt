@@ -8,15 +8,20 @@ ghost use Rattle.controller.specs.declared.call.Call.{Call as AnyCall};
 ghost use Rattle.controller.specs.declared.site.Site.{Site as AnySite};
 ghost use Rattle.controller.specs.Due.{view, faceDue, signGroup};
 ghost use Rattle.controller.specs.Run.{isMade, made, answer, step, moves, memoryAfter, Reached};
-use rack::interface::Rack;
-use replies::FaultEntry;
 use crate::call::Call;
 use crate::call::CallRefusal;
 use crate::service::Controller;
+use rack::interface::Rack;
+use replies::FaultEntry;
 
 impl Controller {
     // Acts on one call; faces follow where they may have to move.
-    fn act<R: Rack>(&mut self, rack: &mut R, call: Call, faults: &mut [FaultEntry]) -> Result<(), CallRefusal>
+    fn act<R: Rack>(
+        &mut self,
+        rack: &mut R,
+        call: Call,
+        faults: &mut [FaultEntry],
+    ) -> Result<(), CallRefusal>
         ensures result { λ r. ⌜ r ≡ answer (now (self .entry) .site) (length (now (faults .entry))) call ⌝ }
         ensures site { λ _. ⌜ now (self .exit) .site ≡ now (self .entry) .site ⌝ }
         ensures state { λ _. ⌜ ((g : ℕ) → view g (now (self .exit)) ≡ cond (isMade (length (now (faults .entry))) call) (step (now (self .entry) .site) (view g (now (self .entry))) call) (view g (now (self .entry)))) ⌝ }
@@ -33,12 +38,21 @@ impl Controller {
                 Ok(())
             }
             Call::Report { sign, code } => self.report(sign, code, faults),
-            Call::Reading { slot, reading, state } => self.read_in(slot, reading, state),
+            Call::Reading {
+                slot,
+                reading,
+                state,
+            } => self.read_in(slot, reading, state),
         }
     }
 
     // Takes one call. The history of a run grows by a call that is made, whatever it answers.
-    pub fn take<R: Rack>(&mut self, rack: &mut R, call: Call, faults: &mut [FaultEntry]) -> Result<(), CallRefusal>
+    pub fn take<R: Rack>(
+        &mut self,
+        rack: &mut R,
+        call: Call,
+        faults: &mut [FaultEntry],
+    ) -> Result<(), CallRefusal>
         ensures result { λ r. ⌜ r ≡ answer (now (self .entry) .site) (length (now (faults .entry))) call ⌝ }
         ensures site { λ _. ⌜ now (self .exit) .site ≡ now (self .entry) .site ⌝ }
         ensures state { λ _. ⌜ ((g : ℕ) → view g (now (self .exit)) ≡ cond (isMade (length (now (faults .entry))) call) (step (now (self .entry) .site) (view g (now (self .entry))) call) (view g (now (self .entry)))) ⌝ }

@@ -25,7 +25,14 @@ impl FaultLog {
     }
 
     // Puts one entry into the log.
-    fn note(&mut self, memory: &mut [FaultEntry], sign: u8, at: DateTime, code: u8, event: FaultEvent)
+    fn note(
+        &mut self,
+        memory: &mut [FaultEntry],
+        sign: u8,
+        at: DateTime,
+        code: u8,
+        event: FaultEvent,
+    )
         requires { ⌜ 20 ≤ length (now memory) ⌝ }
         ensures log { λ _. ⌜ now (self .exit) ≡ counted (now (self .entry)) ⌝ }
         ensures memory { λ _. ⌜ now (memory .exit) ≡ entered sign at code event (now (self .entry)) (now (memory .entry)) ⌝ }
@@ -42,7 +49,14 @@ impl FaultLog {
     }
 
     // Logs that a sign's error code changed: the old one is cleared, then the new one begins; 0 is none.
-    pub(crate) fn change(&mut self, memory: &mut [FaultEntry], sign: u8, at: DateTime, old: u8, new: u8)
+    pub(crate) fn change(
+        &mut self,
+        memory: &mut [FaultEntry],
+        sign: u8,
+        at: DateTime,
+        old: u8,
+        new: u8,
+    )
         requires { ⌜ 20 ≤ length (now memory) ⌝ }
         ensures log { λ _. ⌜ now (self .exit) ≡ countedChange old new (now (self .entry)) ⌝ }
         ensures memory { λ _. ⌜ now (memory .exit) ≡ enteredChange sign at old new (now (self .entry)) (now (memory .entry)) ⌝ }

@@ -3,11 +3,11 @@ ghost use mathlib.Core.Path.{_≡_};
 ghost use lib.ListN.{length};
 ghost use Rattle.rack.specs.Face.{SameTaking};
 ghost use Rattle.controller.specs.Run.{made, SignsShowDue, Reached};
-use rack::interface::Rack;
-use replies::FaultEntry;
 use crate::call::Call;
 use crate::commissioning::Commissioning;
 use crate::service::Controller;
+use rack::interface::Rack;
+use replies::FaultEntry;
 
 // Opens service and takes a list of calls. Whatever the calls, signs then show what is due.
 pub fn serve<R: Rack>(

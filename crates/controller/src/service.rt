@@ -8,17 +8,17 @@ ghost use Rattle.std.specs.Results.{isOk};
 ghost use Rattle.rack.specs.Face.{SameTaking};
 ghost use Rattle.controller.specs.Due.{view, frameDue, shownBy, shownOn, faceDue, signGroup};
 ghost use Rattle.controller.specs.Run.{afterTick, withReport, withReading, faultsAfter, reportAnswer, readingAnswer};
+use crate::call::CallRefusal;
+use crate::common::Common;
+use crate::faces;
+use crate::group::GroupRecord;
+use crate::site::Site;
 use analog::Reading;
 use journal::Journal;
 use rack::interface::Rack;
 use records::frame::Frame;
 use replies::FaultEntry;
 use session::Event;
-use crate::call::CallRefusal;
-use crate::common::Common;
-use crate::faces;
-use crate::group::GroupRecord;
-use crate::site::Site;
 
 // A controller in service.
 #[derive(Drop)]
@@ -45,7 +45,12 @@ impl Controller {
     }
 
     // Takes a sign's report of its error code, and logs a change; no face depends on it.
-    pub fn report(&mut self, sign: u8, code: u8, faults: &mut [FaultEntry]) -> Result<(), CallRefusal>
+    pub fn report(
+        &mut self,
+        sign: u8,
+        code: u8,
+        faults: &mut [FaultEntry],
+    ) -> Result<(), CallRefusal>
         ensures result { λ r. ⌜ r ≡ reportAnswer (now (self .entry) .site) sign (length (now (faults .entry))) ⌝ }
         ensures after { λ r. ⌜ now (self .exit) ≡ record { site = now (self .entry) .site; common = cond (isOk r) (withReport sign code (now (self .entry) .common)) (now (self .entry) .common); groups = now (self .entry) .groups } ⌝ }
         ensures log { λ r. ⌜ now (faults .exit) ≡ cond (isOk r) (faultsAfter sign code (now (self .entry) .common) (now (faults .entry))) (now (faults .entry)) ⌝ }

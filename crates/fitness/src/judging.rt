@@ -21,8 +21,8 @@ pub fn byte_fits(place: Place, byte: u8) -> bool
     ensures { λ r. ⌜ r ≡ byteFits place byte ⌝ }
 {
     match (place, byte) {
-        (Place::Conspicuity, 0..=31) if byte % 8 <= 6 => true,
-        (Place::Character, 0x1F..=0x7E) => true,
+        (Place::Conspicuity, 0..=23) if byte % 8 <= 5 => true,
+        (Place::Character, 0x20..=0x7E) => true,
         _ => false,
     }
 }
@@ -42,7 +42,7 @@ fn text_fits(number: u8, conspicuity: u8, text: &[u8]) -> bool
     ensures { λ r. ⌜ r ≡ textFits number conspicuity (now (text .entry)) ⌝ }
 {
     match (number, text.len()) {
-        (1..=255, 1..=129) => byte_fits(Place::Conspicuity, conspicuity) && characters_fit(text),
+        (1..=255, 1..=128) => byte_fits(Place::Conspicuity, conspicuity) && characters_fit(text),
         _ => false,
     }
 }
@@ -54,7 +54,7 @@ fn bits_used(columns: u8, place: usize, byte: u8) -> bool
 {
     let stride = (columns as usize + 7) / 8;
     if place % stride == stride - 1 {
-        (byte as u16) >> ((columns - 1) % 8 + 8) == 0
+        (byte as u16) >> ((columns - 1) % 8 + 1) == 0
     } else {
         true
     }
@@ -130,8 +130,8 @@ pub impl Listed for Line as LineListed {
 
     fn is_filled(&self) -> bool {
         match (self.kind, self.number, self.stop.hour, self.stop.minute) {
-            (1..=2, 1..=255, 0..=23, 0..=59) | (1..=2, 1..=255, 24, 0..=1) => {
-                of_day(self.start) && minutes(self.start) <= minutes(self.stop)
+            (1..=2, 1..=255, 0..=23, 0..=59) | (1..=2, 1..=255, 24, 0) => {
+                of_day(self.start) && minutes(self.start) < minutes(self.stop)
             }
             _ => false,
         }
@@ -157,7 +157,7 @@ fn ended_at<E: Listed>(ended: bool, part: &E) -> Option<bool>
     ensures { λ r. ⌜ r ≡ endedAt ended (E·Listed .fills (now (part .entry))) (E·Listed .blanks (now (part .entry))) ⌝ }
 {
     match (ended, part.is_filled(), part.is_blank()) {
-        (_, true, _) => Some(false),
+        (false, true, _) => Some(false),
         (_, _, true) => Some(true),
         _ => None,
     }
@@ -212,8 +212,8 @@ pub fn fits(command: &Command<'_>) -> bool
             days,
             lines,
             ..
-        } => { *number >= 1 && *days >= 1 && *days <= 255 && well_listed(lines) }
-        Command::StoredRecord { kind, number } => *kind <= 3 && *number >= 1,
+        } => { *number >= 1 && *days >= 1 && *days <= 127 && well_listed(lines) }
+        Command::StoredRecord { kind, number } => *kind <= 2 && *number >= 1,
         Command::ListStored { kind } => *kind <= 3,
         _ => true,
     }

@@ -8,7 +8,7 @@ pub fn check_word_right(sent: &[u8]) -> bool
 {
     match sent {
         [0x0A..=0x0D, .., high, low] => {
-            let end = sent.len() - 3;
+            let end = sent.len() - 2;
             check_word(&sent[0..end]) == *high as u16 * 256 + *low as u16
         }
         _ => true,

@@ -94,7 +94,7 @@ fn print_clock(rt: &impl Print, clock: &Clock) -> io::Result<()> {
 }
 
 // Each day at its last second, and a second later.
-pub fn print_days(rt: &impl Print) -> io::Result<()> {
+pub(crate) fn print_days(rt: &impl Print) -> io::Result<()> {
     for (day, month, year) in DAYS {
         let mut clock = Clock::new();
         let last = DateTime {
@@ -116,7 +116,7 @@ pub fn print_days(rt: &impl Print) -> io::Result<()> {
 }
 
 // Each setting is refused and leaves the clock at its start.
-pub fn print_refusals(rt: &impl Print) -> io::Result<()> {
+pub(crate) fn print_refusals(rt: &impl Print) -> io::Result<()> {
     for (day, month, year, hour, minute, second) in UNFIT {
         let mut clock = Clock::new();
         let given = DateTime {
@@ -139,7 +139,7 @@ pub fn print_refusals(rt: &impl Print) -> io::Result<()> {
 }
 
 // A day of ticks from the start.
-pub fn print_day_of_ticks(rt: &impl Print) -> io::Result<()> {
+pub(crate) fn print_day_of_ticks(rt: &impl Print) -> io::Result<()> {
     let mut clock = Clock::new();
     let before = clock.count();
     for _ in 0..86400u32 {

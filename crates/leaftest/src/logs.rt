@@ -31,7 +31,7 @@ fn append_six(rt: &impl Print, log: &mut Journal<4>, memory: &mut [u8]) -> io::R
 }
 
 // Six entries in a log of four, over a memory of six, and an emptying.
-pub fn print_filling(rt: &impl Print) -> io::Result<()> {
+pub(crate) fn print_filling(rt: &impl Print) -> io::Result<()> {
     let mut memory = [90, 91, 92, 93, 94, 95];
     let mut log = Journal::<4>::new();
     append_six(rt, &mut log, &mut memory)?;
@@ -41,7 +41,7 @@ pub fn print_filling(rt: &impl Print) -> io::Result<()> {
 }
 
 // One place too few.
-pub fn print_short(rt: &impl Print) -> io::Result<()> {
+pub(crate) fn print_short(rt: &impl Print) -> io::Result<()> {
     let mut memory = [90, 91, 92];
     let mut log = Journal::<4>::new();
     append(rt, &mut log, &mut memory, 1)

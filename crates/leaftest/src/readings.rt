@@ -66,7 +66,7 @@ const DEGREES: [f32; 24] = [
 
 const STATES: [u8; 5] = [0, 0x40, 0x80, 0xC0, 1];
 
-pub fn print_volts(rt: &impl Print) -> io::Result<()> {
+pub(crate) fn print_volts(rt: &impl Print) -> io::Result<()> {
     for volts in VOLTS {
         let code = Reading::Volts(volts).code();
         println!(rt, "volts {code}")?;
@@ -74,7 +74,7 @@ pub fn print_volts(rt: &impl Print) -> io::Result<()> {
     Ok(())
 }
 
-pub fn print_degrees(rt: &impl Print) -> io::Result<()> {
+pub(crate) fn print_degrees(rt: &impl Print) -> io::Result<()> {
     for degrees in DEGREES {
         let code = Reading::Celsius(degrees).code();
         println!(rt, "degrees {code}")?;
@@ -95,7 +95,7 @@ fn print_reading(rt: &impl Print, slot: u8, reading: Reading, state: u8) -> io::
 }
 
 // Every slot from 0 to 4 with every kind and each state.
-pub fn print_slots(rt: &impl Print) -> io::Result<()> {
+pub(crate) fn print_slots(rt: &impl Print) -> io::Result<()> {
     for slot in 0..5u8 {
         for state in STATES {
             print_reading(rt, slot, Reading::Volts(12.0), state)?;

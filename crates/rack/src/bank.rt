@@ -5,7 +5,7 @@ pub mod faces;
 
 // The face memories of up to twelve signs, numbered from 1.
 #[derive(Drop)]
-pub struct Bank {
+pub(crate) struct Bank {
     count: u8,
     panels: [Panel; 12],
     ghost few: { count ≤ 12 },

@@ -8,14 +8,14 @@ use crate::look::Look;
 
 // The face memory of one sign. A dark sign keeps its picture bytes; they are not shown.
 #[derive(Clone, Copy)]
-pub struct Panel {
+pub(crate) struct Panel {
     lit: Option<Look>,
     length: usize,
     bytes: [u8; 128],
 }
 
 impl Panel {
-    pub fn new() -> Panel
+    pub(crate) fn new() -> Panel
         ensures { λ r. ⌜ panelFace r ≡ dark ⌝ }
     {
         Panel {
@@ -25,13 +25,13 @@ impl Panel {
         }
     }
 
-    pub fn look(&self) -> Option<Look>
+    pub(crate) fn look(&self) -> Option<Look>
         ensures { λ r. ⌜ r ≡ lookOf (panelFace (now (self .entry))) ⌝ }
     {
         self.lit
     }
 
-    pub fn picture(&self) -> &[u8]
+    pub(crate) fn picture(&self) -> &[u8]
         ensures { λ r. ⌜ now r ≡ pictureOf (panelFace (now (self .entry))) ⌝ }
     {
         match self.lit {
@@ -44,7 +44,7 @@ impl Panel {
     }
 
     // Writes as many bytes as the picture has; the others keep what they held.
-    pub fn write(&mut self, look: Look, picture: &[u8])
+    pub(crate) fn write(&mut self, look: Look, picture: &[u8])
         requires { ⌜ length (now picture) ≤ 128 ⌝ }
         ensures { λ _. ⌜ panelFace (now (self .exit)) ≡ lit look (now (picture .entry)) ⌝ }
     {
@@ -55,7 +55,7 @@ impl Panel {
     }
 
     // Marks the sign dark and leaves its picture bytes unwritten.
-    pub fn blank(&mut self)
+    pub(crate) fn blank(&mut self)
         ensures { λ _. ⌜ panelFace (now (self .exit)) ≡ dark ⌝ }
     {
         self.lit = None;
@@ -63,7 +63,7 @@ impl Panel {
 }
 
 // Lights one panel of several.
-pub fn light(panels: &mut [Panel], place: usize, look: Look, picture: &[u8])
+pub(crate) fn light(panels: &mut [Panel], place: usize, look: Look, picture: &[u8])
     requires { ⌜ length (now picture) ≤ 128 ⌝ ∗ ⌜ place < length (now panels) ⌝ }
     ensures { λ _. ⌜ map panelFace (now (panels .exit)) ≡ set (map panelFace (now (panels .entry))) place (lit look (now (picture .entry))) ⌝ }
 {
@@ -71,7 +71,7 @@ pub fn light(panels: &mut [Panel], place: usize, look: Look, picture: &[u8])
 }
 
 // Darkens one panel of several.
-pub fn quench(panels: &mut [Panel], place: usize)
+pub(crate) fn quench(panels: &mut [Panel], place: usize)
     requires { ⌜ place < length (now panels) ⌝ }
     ensures { λ _. ⌜ map panelFace (now (panels .exit)) ≡ set (map panelFace (now (panels .entry))) place dark ⌝ }
 {

@@ -12,7 +12,7 @@ fn digit(b: u8) -> u8
 }
 
 // Reads pairs of hex digits, at most 800, and answers how many.
-pub fn read_hex(text: &[u8], out: &mut [u8; 800]) -> usize
+pub(crate) fn read_hex(text: &[u8], out: &mut [u8; 800]) -> usize
     ensures { λ r. ⌜ r ≤ 800 ⌝ }
 {
     let n = (text.len() / 2).min(800);
@@ -22,7 +22,7 @@ pub fn read_hex(text: &[u8], out: &mut [u8; 800]) -> usize
     n
 }
 
-pub fn show_hex(rt: &LibcRuntime, word: &str, bytes: &[u8]) -> io::Result<()> {
+pub(crate) fn show_hex(rt: &LibcRuntime, word: &str, bytes: &[u8]) -> io::Result<()> {
     print!(rt, "{word} ")?;
     for b in bytes {
         print!(rt, "{b:02X}")?;

@@ -6,10 +6,10 @@ mod digits;
 
 use commands::command::Command;
 use commands::parsing::parse;
-use fitness::judging::fits;
-use fitness::soundness::check_word_right;
 use digits::read_hex;
 use digits::show_hex;
+use fitness::judging::fits;
+use fitness::soundness::check_word_right;
 use records::any_record::AnyRecord;
 use records::any_record::RecordKind;
 use records::plan::Shows;

@@ -31,7 +31,11 @@ fn print_set(rt: &LibcRuntime, what: &str, answer: Result<(), Refusal>) -> Resul
     Ok(())
 }
 
-fn print_report(rt: &LibcRuntime, what: &str, answer: Result<(), CallRefusal>) -> Result<(), AnyError> {
+fn print_report(
+    rt: &LibcRuntime,
+    what: &str,
+    answer: Result<(), CallRefusal>,
+) -> Result<(), AnyError> {
     match answer {
         Ok(()) => println!(rt, "{what}: taken")?,
         Err(refusal) => {
@@ -83,13 +87,41 @@ fn signs(rt: &LibcRuntime, site: &mut Commissioning) -> Result<(), AnyError> {
 }
 
 fn readings(rt: &LibcRuntime, controller: &mut Controller) -> Result<(), AnyError> {
-    print_report(rt, "volts in slot 0", controller.read_in(0, Reading::Volts(12.0), 0))?;
-    print_report(rt, "volts in slot 1", controller.read_in(1, Reading::Volts(12.0), 0x40))?;
-    print_report(rt, "volts in slot 3", controller.read_in(3, Reading::Volts(12.0), 0))?;
-    print_report(rt, "degrees in slot 3", controller.read_in(3, Reading::Celsius(20.0), 0x80))?;
-    print_report(rt, "degrees in slot 2", controller.read_in(2, Reading::Celsius(20.0), 0))?;
-    print_report(rt, "absent in slot 2 with state C0", controller.read_in(2, Reading::Absent, 0xC0))?;
-    print_report(rt, "absent in slot 4", controller.read_in(4, Reading::Absent, 0))
+    print_report(
+        rt,
+        "volts in slot 0",
+        controller.read_in(0, Reading::Volts(12.0), 0),
+    )?;
+    print_report(
+        rt,
+        "volts in slot 1",
+        controller.read_in(1, Reading::Volts(12.0), 0x40),
+    )?;
+    print_report(
+        rt,
+        "volts in slot 3",
+        controller.read_in(3, Reading::Volts(12.0), 0),
+    )?;
+    print_report(
+        rt,
+        "degrees in slot 3",
+        controller.read_in(3, Reading::Celsius(20.0), 0x80),
+    )?;
+    print_report(
+        rt,
+        "degrees in slot 2",
+        controller.read_in(2, Reading::Celsius(20.0), 0),
+    )?;
+    print_report(
+        rt,
+        "absent in slot 2 with state C0",
+        controller.read_in(2, Reading::Absent, 0xC0),
+    )?;
+    print_report(
+        rt,
+        "absent in slot 4",
+        controller.read_in(4, Reading::Absent, 0),
+    )
 }
 
 fn main(rt: LibcRuntime) -> Result<(), AnyError> {
@@ -101,10 +133,30 @@ fn main(rt: LibcRuntime) -> Result<(), AnyError> {
     let mut rack = TextRack::new();
     let mut controller = site.close(&mut rack);
     let mut faults = playback::site::fault_memory();
-    print_report(&rt, "report with memory for 19 faults", controller.report(2, 7, &mut faults[0..19]))?;
-    print_report(&rt, "report of sign 0 with memory for 19 faults", controller.report(0, 7, &mut faults[0..19]))?;
-    print_report(&rt, "report of sign 0", controller.report(0, 7, &mut faults))?;
-    print_report(&rt, "report of sign 2", controller.report(2, 7, &mut faults))?;
-    print_report(&rt, "report of sign 3", controller.report(3, 7, &mut faults))?;
+    print_report(
+        &rt,
+        "report with memory for 19 faults",
+        controller.report(2, 7, &mut faults[0..19]),
+    )?;
+    print_report(
+        &rt,
+        "report of sign 0 with memory for 19 faults",
+        controller.report(0, 7, &mut faults[0..19]),
+    )?;
+    print_report(
+        &rt,
+        "report of sign 0",
+        controller.report(0, 7, &mut faults),
+    )?;
+    print_report(
+        &rt,
+        "report of sign 2",
+        controller.report(2, 7, &mut faults),
+    )?;
+    print_report(
+        &rt,
+        "report of sign 3",
+        controller.report(3, 7, &mut faults),
+    )?;
     readings(&rt, &mut controller)
 }

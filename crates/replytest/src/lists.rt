@@ -6,7 +6,7 @@ use replies::Reply;
 use replies::StoredKind;
 use std::io;
 
-pub fn print_plans(rt: &impl Print) -> io::Result<()> {
+pub(crate) fn print_plans(rt: &impl Print) -> io::Result<()> {
     print_reply(rt, "plans", &Reply::enabled_plans(&[]))?;
     let mut plans = [EnabledPlan { group: 1, plan: 2 }; 98];
     print_reply(rt, "plans", &Reply::enabled_plans(&plans[0..1]))?;
@@ -20,7 +20,7 @@ pub fn print_plans(rt: &impl Print) -> io::Result<()> {
     print_reply(rt, "plans", &Reply::enabled_plans(&plans))
 }
 
-pub fn print_stored(rt: &impl Print) -> io::Result<()> {
+pub(crate) fn print_stored(rt: &impl Print) -> io::Result<()> {
     let mut listed = [Listed {
         number: 5,
         check: 0x31C3,
@@ -50,7 +50,7 @@ pub fn print_stored(rt: &impl Print) -> io::Result<()> {
     print_reply(rt, "cut", &Reply::stored_list(StoredKind::Plans, &listed))
 }
 
-pub fn print_summary(rt: &impl Print) -> io::Result<()> {
+pub(crate) fn print_summary(rt: &impl Print) -> io::Result<()> {
     let mut bits = [0; 96];
     for i in 0..96u8 {
         bits[i as usize] = 159 - i;

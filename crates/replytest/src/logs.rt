@@ -7,7 +7,7 @@ use replies::OrderEntry;
 use replies::Reply;
 use std::io;
 
-pub fn print_faults(rt: &impl Print) -> io::Result<()> {
+pub(crate) fn print_faults(rt: &impl Print) -> io::Result<()> {
     let at = DateTime {
         day: 29,
         month: 2,
@@ -42,7 +42,7 @@ pub fn print_faults(rt: &impl Print) -> io::Result<()> {
     print_reply(rt, "faults", &Reply::fault_log(&entries))
 }
 
-pub fn print_orders(rt: &impl Print) -> io::Result<()> {
+pub(crate) fn print_orders(rt: &impl Print) -> io::Result<()> {
     let order = OrderEntry {
         code: 0x0E,
         group: 3,

@@ -5,7 +5,7 @@ use analog::Readings;
 use replies::Reply;
 use std::io;
 
-pub fn print_verdicts(rt: &impl Print) -> io::Result<()> {
+pub(crate) fn print_verdicts(rt: &impl Print) -> io::Result<()> {
     print_reply(rt, "empty", &Reply::new())?;
     print_reply(rt, "acknowledgement", &Reply::acknowledgement(0x0E))?;
     print_reply(rt, "rejection", &Reply::rejection(0x0A, 0x43))?;
@@ -13,7 +13,7 @@ pub fn print_verdicts(rt: &impl Print) -> io::Result<()> {
 }
 
 // A short command, one that fills a reply, and one that is cut.
-pub fn print_commands(rt: &impl Print) -> io::Result<()> {
+pub(crate) fn print_commands(rt: &impl Print) -> io::Result<()> {
     let mut bytes = [0; 770];
     for i in 0..770usize {
         bytes[i] = (i % 251) as u8;
@@ -32,7 +32,7 @@ pub fn print_commands(rt: &impl Print) -> io::Result<()> {
     print_reply(rt, "cut", &cut)
 }
 
-pub fn print_readings(rt: &impl Print) -> io::Result<()> {
+pub(crate) fn print_readings(rt: &impl Print) -> io::Result<()> {
     let mut readings = Readings::new();
     print_reply(rt, "readings", &Reply::readings(&readings))?;
     let _ = readings.set(1, Reading::Volts(12.5), 0x40);

@@ -7,7 +7,7 @@ use replies::Row;
 use replies::Status;
 use std::io;
 
-pub fn print_short(rt: &impl Print) -> io::Result<()> {
+pub(crate) fn print_short(rt: &impl Print) -> io::Result<()> {
     let at = DateTime {
         day: 1,
         month: 2,
@@ -40,7 +40,7 @@ pub fn print_short(rt: &impl Print) -> io::Result<()> {
     print_reply(rt, "status", &Reply::status(status, &[row]))
 }
 
-pub fn print_full(rt: &impl Print) -> io::Result<()> {
+pub(crate) fn print_full(rt: &impl Print) -> io::Result<()> {
     let at = DateTime {
         day: 31,
         month: 12,

@@ -11,7 +11,7 @@ use crate::panel;
 use crate::panel::Panel;
 
 impl Bank {
-    pub fn new() -> Bank
+    pub(crate) fn new() -> Bank
         ensures { λ r. ⌜ r .count ≡ 0 ⌝ }
     {
         Bank {
@@ -20,26 +20,26 @@ impl Bank {
         }
     }
 
-    pub fn count(&self) -> u8
+    pub(crate) fn count(&self) -> u8
         ensures { λ r. ⌜ r ≡ now (self .entry) .count ⌝ }
     {
         self.count
     }
 
-    pub fn is_full(&self) -> bool
+    pub(crate) fn is_full(&self) -> bool
         ensures { λ r. ⌜ r ≡ leb 12 (now (self .entry) .count) ⌝ }
     {
         self.count >= 12
     }
 
-    pub fn has_sign(&self, sign: u8) -> bool
+    pub(crate) fn has_sign(&self, sign: u8) -> bool
         ensures { λ r. ⌜ r ≡ has (now (self .entry) .count) sign ⌝ }
     {
         sign >= 1 && sign <= self.count
     }
 
     // Adds one sign, dark, and gives its number.
-    pub fn add(&mut self) -> u8
+    pub(crate) fn add(&mut self) -> u8
         requires { ⌜ now self .count < 12 ⌝ }
         ensures result { λ r. ⌜ r ≡ now (self .entry) .count + 1 ⌝ }
         ensures count { λ _. ⌜ now (self .exit) .count ≡ now (self .entry) .count + 1 ⌝ }
@@ -50,7 +50,7 @@ impl Bank {
         self.count
     }
 
-    pub fn look(&self, sign: u8) -> Option<Look>
+    pub(crate) fn look(&self, sign: u8) -> Option<Look>
         ensures { λ r. ⌜ r ≡ lookOf (bankFace (now (self .entry)) sign) ⌝ }
     {
         if !self.has_sign(sign) {
@@ -59,7 +59,7 @@ impl Bank {
         self.panels[sign as usize - 1].look()
     }
 
-    pub fn picture(&self, sign: u8) -> &[u8]
+    pub(crate) fn picture(&self, sign: u8) -> &[u8]
         ensures { λ r. ⌜ now r ≡ pictureOf (bankFace (now (self .entry)) sign) ⌝ }
     {
         if !self.has_sign(sign) {
@@ -68,7 +68,7 @@ impl Bank {
         self.panels[sign as usize - 1].picture()
     }
 
-    pub fn light(&mut self, sign: u8, look: Look, picture: &[u8])
+    pub(crate) fn light(&mut self, sign: u8, look: Look, picture: &[u8])
         requires { ⌜ has (now self .count) sign ≡ true ⌝ ∗ ⌜ length (now picture) ≤ 128 ⌝ }
         ensures face { λ _. ⌜ bankFace (now (self .exit)) sign ≡ lit look (now (picture .entry)) ⌝ }
         ensures others { λ _. ⌜ Elsewhere (bankFace (now (self .entry))) (bankFace (now (self .exit))) sign ⌝ }
@@ -77,7 +77,7 @@ impl Bank {
         panel::light(&mut self.panels[..], sign as usize - 1, look, picture);
     }
 
-    pub fn darken(&mut self, sign: u8)
+    pub(crate) fn darken(&mut self, sign: u8)
         ensures face { λ _. ⌜ bankFace (now (self .exit)) sign ≡ dark ⌝ }
         ensures others { λ _. ⌜ Elsewhere (bankFace (now (self .entry))) (bankFace (now (self .exit))) sign ⌝ }
         ensures count { λ _. ⌜ now (self .exit) .count ≡ now (self .entry) .count ⌝ }

@@ -23,12 +23,12 @@ returns-in-Report g c =
       result = e .result ∙ sym (ap (answer (ctl .site) lent) is);
       site = ap (λ x. x .site) (e .after);
       state = λ k. ap (view k) (e .after)
-        ∙ (ap (λ r. record { common = cond (isOk r) (withReport sign code (ctl .common)) (ctl .common); group = groupAt (ctl .groups) k }) (e .result)
-        ∙ (report-state (view k ctl) sign code (leb 20 lent) (has (ctl .site .signs) sign)
-        ∙ sym (ap (λ x. cond (isMade lent x) (step (ctl .site) (view k ctl) x) (view k ctl)) is)));
+          ∙ (ap (λ r. record { common = cond (isOk r) (withReport sign code (ctl .common)) (ctl .common); group = groupAt (ctl .groups) k }) (e .result)
+          ∙ (report-state (view k ctl) sign code (leb 20 lent) (has (ctl .site .signs) sign)
+          ∙ sym (ap (λ x. cond (isMade lent x) (step (ctl .site) (view k ctl) x) (view k ctl)) is)));
       memory = e .log
-        ∙ (ap (λ r. cond (isOk r) (faultsAfter sign code (ctl .common) (c .args .faults .now)) (c .args .faults .now)) (e .result)
-        ∙ sym (ap (λ x. memoryAfter (ctl .site) (ctl .common) x (c .args .faults .now)) is));
+          ∙ (ap (λ r. cond (isOk r) (faultsAfter sign code (ctl .common) (c .args .faults .now)) (c .args .faults .now)) (e .result)
+          ∙ sym (ap (λ x. memoryAfter (ctl .site) (ctl .common) x (c .args .faults .now)) is));
       faces = λ k h. sym (ap (λ x. cond (moves x) (faceDue (view (signGroup ctl k) (c .report .last .self)) (g .R·Rack .takes (c .args .rack .now) (k + 1))) (g .R·Rack .face (c .args .rack .now) (k + 1))) is);
       others = λ k h. refl;
       taking = λ s h. refl;

@@ -1,0 +1,4 @@
+pub mod Conditions
+pub mod Effects
+pub mod Judgements
+pub mod Rejections
