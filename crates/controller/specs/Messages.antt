@@ -9,15 +9,12 @@ use Rattle.calendar.specs.Clocks.{setTo}
 use Rattle.commands.specs.Sent.{Sent, startSession, password, heartbeat, endSession, setTime, text, graphic, message, plan, groupOrder, enabledPlans, storedRecord, faultLog, emptyFaultLog, orderLog, readings, listStored, refused}
 use Rattle.journal.specs.Logs.{empty}
 use Rattle.judging.specs.Conditions.{Asked, asked, nothing, rightPassword, openSession, openAndTime, openAndStored, otherForm}
-use Rattle.judging.specs.Effects.{eventOf}
+use Rattle.judging.specs.Effects.{sessionAfter}
 use Rattle.judging.specs.Judgements.{Judgement, accepted, rejected, judged}
 use Rattle.records.specs.declared.any_record.AnyRecord.{AnyRecord}
 use Rattle.records.specs.declared.store.Store.{Store}
 use Rattle.records.specs.AnyRecords.{recordOf}
 use Rattle.records.specs.Stores.{stored}
-use Rattle.session.specs.declared.Event.{Event}
-use Rattle.session.specs.declared.Session.{Session}
-use Rattle.session.specs.Sessions.{after}
 use Rattle.controller.specs.declared.common.Common.{Common}
 use Rattle.controller.specs.declared.faults.FaultLog.{FaultLog}
 use Rattle.controller.specs.declared.site.Site.{Site}
@@ -25,10 +22,6 @@ use Rattle.controller.specs.declared.site.Site.{Site}
 -- The verdict on a message.
 abbrev pub verdictOn : Site → Common → List ℕ → Judgement
 verdictOn s c m = judged (c .session) (s .«seed_offset») (s .«password_offset») (c .store) m
-
-abbrev pub moved : Option Event → Session → Session
-moved None s = s
-moved (Some e) s = after s e
 
 -- A storing command puts its record into the store.
 abbrev pub putIn : Option AnyRecord → Store → Store
@@ -85,7 +78,7 @@ logAfter (rejected r) l = l
 abbrev pub obeyed : Judgement → Common → Common
 obeyed j c = record {
   store = storeAfter j (c .store);
-  session = moved (eventOf (c .«tick_byte») j) (c .session);
+  session = sessionAfter (c .session) (c .«tick_byte») j;
   clock = clockAfter j (c .clock);
   «tick_byte» = c .«tick_byte»;
   «error_codes» = c .«error_codes»;

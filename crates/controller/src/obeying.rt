@@ -6,7 +6,7 @@ ghost use Rattle.controller.specs.Messages.{obeyed, carriedOut};
 use crate::common::Common;
 use calendar::DateTime;
 use commands::command::Command;
-use judging::effects::session_event;
+use judging::effects::session_after;
 use judging::rejection::Rejection;
 use records::any_record::AnyRecord;
 
@@ -47,9 +47,7 @@ impl Common {
     pub fn obey(&mut self, verdict: &Result<Command<'_>, Rejection>)
         ensures { λ _. ⌜ now (self .exit) ≡ obeyed (judgement (now (verdict .entry))) (now (self .entry)) ⌝ }
     {
-        if let Some(event) = session_event(self.tick_byte, verdict) {
-            self.session = self.session.on(event);
-        }
+        self.session = session_after(self.session, self.tick_byte, verdict);
         if let Ok(command) = verdict {
             self.carry_out(command);
         }
