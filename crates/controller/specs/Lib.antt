@@ -5,3 +5,4 @@ pub mod Messages
 pub mod Run
 pub mod Site
 pub mod State
+pub mod Status

@@ -14,3 +14,4 @@ pub mod obeying;
 pub mod run;
 pub mod service;
 pub mod site;
+pub mod status;
