@@ -1,4 +1,4 @@
-// The line for callers in other languages: what the benchmark measures, and what the tests hold to published values.
+// The line for callers in other languages: what the benchmark measures, and what the tests hold to known values.
 ghost use mathlib.Core.Path.{_≡_};
 ghost use lib.ListN.{length};
 ghost use Rattle.wire.specs.CheckWord.{checkWord};

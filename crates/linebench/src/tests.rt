@@ -5,7 +5,8 @@ use wire::Packet;
 use wire::Reader;
 use wire::write_packet;
 
-// Check words as others have published them.
+// Check words of known texts. The first is the algorithm's usual example, the last stands in the tests of Python's
+// library; that of "A" was quoted from memory. All agree with Python's own function.
 const WORDS: [(&[u8], u16); 4] = [
     (b"123456789", 0x31C3),
     (b"", 0),
@@ -13,7 +14,8 @@ const WORDS: [(&[u8], u16); 4] = [
     (b"Test the CRC-32 of this string.", 14290),
 ];
 
-// Check words that are published modulo 16,384, as the slots of keys in a cluster.
+// Check words modulo 16,384: slots of keys as a key-value store's manual gives them, quoted from memory; they too agree
+// with Python's own function.
 const SLOTS: [(&[u8], u16); 5] = [
     (b"foo", 12182),
     (b"bar", 5061),
@@ -23,7 +25,7 @@ const SLOTS: [(&[u8], u16); 5] = [
 ];
 
 #[test]
-fn published_check_words() -> Result<(), Fail> {
+fn known_check_words() -> Result<(), Fail> {
     for (text, word) in WORDS {
         check_eq(word_of(text), word)?;
     }
