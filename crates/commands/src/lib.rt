@@ -2,6 +2,8 @@
 //
 // `parse` reads any bytes as one of 23 commands, or says why they are none; its text and graphic cases borrow their
 // bytes from the message. Whether the values of a command are fit is judged apart.
+#![tactic(auto)]
+
 pub mod command;
 pub mod lists;
 pub mod parsing;

@@ -2,6 +2,8 @@
 //
 // Each call leaves exactly the state, answer, log memory and faces that the rules give, for every input, and a refused
 // call alters nothing. After any list of calls each attached sign shows what is due to its group, over every rack.
+#![tactic(auto)]
+
 pub mod call;
 pub mod calls;
 pub mod commissioning;

@@ -4,6 +4,8 @@
 // asking for it alters nothing; what is due goes by the direct order, else by the enabled plans and the clock.
 // Enabled plans that share no minute stay so under every order that nothing stands against, and it does not matter in
 // which order such plans stand.
+#![tactic(auto)]
+
 pub mod due;
 pub mod group;
 pub mod obeying;

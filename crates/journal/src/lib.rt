@@ -2,6 +2,8 @@
 // The log's entries stand newest first at the front of the memory, so that what it means is the memory's first
 // entries. Promised: the newest comes first and retires the oldest when the log is full; what stands behind the log
 // in the memory keeps its contents; memory that is shorter than the bound is refused, and nothing alters.
+#![tactic(auto)]
+
 ghost use Rattle.std.specs.Prelude.{◌≡◌, ◌≤◌, ◌∷◌, length, take, if◌then◌else◌, Err, MatchResult, nat_le};
 ghost use Rattle.std.specs.List.{slice_get};
 ghost use Rattle.journal.specs.Logs.{empty, kept, grown, listed, written, judged, refusal_number};

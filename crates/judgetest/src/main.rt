@@ -2,6 +2,8 @@
 //
 // A line has the verdict on a message, the session that it leaves and the application error code. The seed is 10h, the
 // offsets are 05h and 0100h, so the password is 1615h.
+#![tactic(auto)]
+
 use judging::effects::{error_after, session_after};
 use judging::verdict::judge;
 use records::any_record::AnyRecord;

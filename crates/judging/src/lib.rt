@@ -2,6 +2,8 @@
 //
 // `judge` decides and alters nothing. Its grounds stand in one fixed order, each with its number. What a verdict means
 // for the session and for the application error code is said here too, for every verdict.
+#![tactic(auto)]
+
 pub mod effects;
 mod grounds;
 pub mod rejection;

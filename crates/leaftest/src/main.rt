@@ -1,4 +1,6 @@
 // Dates, readings and logs at known values; the stored output is written from the rules.
+#![tactic(auto)]
+
 mod dates;
 mod logs;
 mod readings;

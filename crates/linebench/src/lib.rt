@@ -1,4 +1,6 @@
 // The line for callers in other languages: what the benchmark measures, and what the tests hold to known values.
+#![tactic(auto)]
+
 ghost use Rattle.std.specs.Prelude.{◌≡◌, length};
 ghost use Rattle.wire.specs.CheckWord.{check_word};
 ghost use Rattle.wire.specs.Reader.{rest, takes};

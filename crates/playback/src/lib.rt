@@ -2,6 +2,8 @@
 //
 // Promised: input is read as exactly its calls, up to its end, a cut or anything else; the site is the two text signs in
 // two groups and is never refused; a line tells what a sign shows, to the byte.
+#![tactic(auto)]
+
 pub mod input;
 pub mod lines;
 pub mod site;

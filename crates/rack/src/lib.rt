@@ -3,6 +3,8 @@
 // Promised of every rack: showing succeeds exactly when the sign takes the picture, and then the face is what was given;
 // darkening leaves the sign dark; both touch that one sign, and a refusal alters nothing. Questions answer by the
 // meaning. A sign that the rack lacks is dark and takes nothing.
+#![tactic(auto)]
+
 mod bank;
 pub mod interface;
 pub mod joined;

@@ -1,5 +1,7 @@
 // Dresses a gantry: a joined rack of two text signs and a lane sign shows a text and a picture, refuses a text that
 // is too wide, and darkens a sign. After each step it prints every sign.
+#![tactic(auto)]
+
 use anyhow::anyhow;
 use rack::interface::Rack;
 use rack::joined::JoinedRack;

@@ -2,6 +2,8 @@
 //
 // A message prints what it sets, given back as its command, or the number of its refusal. Lines that begin with a code
 // of no command ask: E0 message age, E1 plan weekday minute, E2 plan plan, E3 for the checksum, E4 for the store's size.
+#![tactic(auto)]
+
 mod digits;
 
 use commands::command::Command;

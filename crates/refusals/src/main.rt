@@ -1,4 +1,6 @@
 // Tries what racks, commissioning and service refuse, at each bound and beside it, and prints what each call answers.
+#![tactic(auto)]
+
 use analog::Reading;
 use controller::call::CallRefusal;
 use controller::commissioning::Commissioning;

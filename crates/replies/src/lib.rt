@@ -1,6 +1,8 @@
 // The replies that the controller sends: the exact bytes of each message that a reply packet carries.
 // A reply holds at most 768 bytes; what would not fit is cut, so that whoever fills one owes no proof of room.
 // Promised: each reply holds its layout to the byte and nothing behind it, and equal layouts make equal replies.
+#![tactic(auto)]
+
 mod dates;
 mod list;
 mod logs;

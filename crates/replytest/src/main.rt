@@ -1,4 +1,6 @@
 // Replies of fixed inputs in hexadecimal; the stored output is written from the layouts.
+#![tactic(auto)]
+
 mod lists;
 mod logs;
 mod simple;

@@ -1,6 +1,8 @@
 // The session between the control room and the controller: closed, seeded or open, and the password that opens it.
 // Promised: the state after every pair of state and event, the right word for every seed and offsets, and the verdict on
 // every word.
+#![tactic(auto)]
+
 ghost use Rattle.std.specs.Prelude.{◌≡◌, ℕ, ◌+◌, ◌*◌, ◌%◌, Bool};
 ghost use Rattle.session.specs.Sessions.{after, is_open, judged};
 ghost use Rattle.session.specs.Passwords.{right_word, Worked};

@@ -1,4 +1,6 @@
 // Runs recorded input on a site of two text signs, and prints what each sign then shows.
+#![tactic(auto)]
+
 use controller::run;
 use controller::service::Controller;
 use playback::{input, lines, site};

@@ -2,6 +2,8 @@
 //
 // What is written is read back as the same number, address and message, and what is read is what would be written.
 // SOH starts a packet afresh from any state, and noise in a gap of the line leaves no trace but in the reader.
+#![tactic(auto)]
+
 mod crc;
 mod digits;
 mod packet;
