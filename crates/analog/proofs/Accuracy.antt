@@ -1,15 +1,15 @@
 -- The byte of a voltage is within 0.5001 of ten times the volts. Rounding keeps the order (`round_mono`), so it is enough to round two fractions
 -- for each byte, (byte - 0.5001) and (byte + 0.5001), and to compare them with the marks: a test that antt computes. Assumes nothing.
-use Rattle.std.proofs.Common.{◌≡◌, ℕ, zero, suc, ◌+◌, ◌-◌, ◌*◌, ◌^◌, ◌<◌, ◌≤◌, Bool, true, false, cond, not, ◌&&◌, ◌||◌, T, ltb, ◌⊎◌, ℤ, pos, negsuc, sym, refl, ap, ◌∙◌, subst, inl, inr, zero-le, not-suc-le-zero, le_of_lt, mul_assoc, suc-mul, add-mul, mul-one, arith, lit<, lt→ltb, T_not}
-use lib.Ieee.{Float, nan, inf, fin, up, down, mul, round, units, odd, le, binary32, prec, low, emax, size}
+use Rattle.std.proofs.Common.{◌≡◌, ℕ, suc, ◌+◌, ◌-◌, ◌*◌, ◌^◌, ◌<◌, ◌≤◌, Bool, true, false, cond, not, ◌&&◌, T, ltb, sym, refl, ap, ◌∙◌, subst, inl, inr, le_of_lt, mul_assoc, suc-mul, add-mul, mul-one, arith, lit<, lt→ltb, T_not}
+use lib.Ieee.{Float, nan, inf, fin, up, down, mul, round, units, odd, le, binary32, prec, low, emax}
 use lib.Ieee.Fits.{and_l, and_r, down_pos, round_is}
 use lib.Ieee.Exact.{HasValue, odd_sign}
 use lib.Ieee.Order.{round_mono, kept, drop}
-use lib.Ieee.Positive.{positive, above, cross→le, le_trans_positive, above_of_le, between, mul_mono}
+use lib.Ieee.Positive.{positive, above, cross→le, le_trans_positive, above_of_le, between}
 use Rattle.analog.specs.Codes.{count, volt_mark, tenfold, volts_code, NearVolts}
-use Rattle.analog.proofs.Counts.{count-le, is-counted, is-reached}
-use Rattle.analog.proofs.Marks.{all, at}
-use Rattle.std.proofs.lemmas.Bool.{cases_eq, cases_lt, cases_Bool, false≢true}
+use Rattle.analog.proofs.Counts.{is-counted, is-reached}
+use Rattle.analog.proofs.Marks.{at}
+use Rattle.std.proofs.lemmas.Bool.{cases_lt, false≢true}
 
 -- ---- the order of the marks
 pub mark-positive : (k : ℕ) → T (positive (volt_mark k))

@@ -1,5 +1,5 @@
 -- The marks that the code computes are the exact ones: one test over all of them, which antt computes. Assumes nothing.
-use Rattle.std.proofs.Common.{◌≡◌, ℕ, zero, suc, ◌<◌, Bool, true, false, cond, ◌&&◌, T, eqb, ◌⊎◌, ℤ, pos, negsuc, sym, refl, ap, ◌∙◌, subst, inl, inr, not-suc-le-zero, arith, eqb→eq}
+use Rattle.std.proofs.Common.{◌≡◌, ℕ, zero, suc, ◌<◌, Bool, true, false, ◌&&◌, T, eqb, ℤ, pos, negsuc, sym, refl, ap, subst, inl, inr, not-suc-le-zero, arith, eqb→eq}
 use mathlib.Core.Bool.{beq}
 use lib.Ieee.{Float, nan, inf, fin, of_bits, of_int, add, neg, binary32}
 use lib.Ieee.Fits.{and_l, and_r}

@@ -1,7 +1,7 @@
 -- Different dates have different numbers. Assumes nothing.
-use Rattle.std.proofs.Common.{◌≡◌, ℕ, zero, suc, ◌+◌, ◌-◌, ◌*◌, ◌<◌, ◌≤◌, Bool, true, false, cond, ◌⊎◌, sym, refl, ap, ◌∙◌, subst, inl, inr, zero-le, le_refl, arith}
+use Rattle.std.proofs.Common.{◌≡◌, ℕ, zero, suc, ◌+◌, ◌-◌, ◌*◌, ◌<◌, ◌≤◌, true, cond, sym, ap, subst, inl, inr, le_refl, arith}
 use Rattle.std.proofs.lemmas.Bool.{cases_eq, cases_order}
-use Rattle.calendar.specs.Dates.{leap, month_days, years_days, months_days}
+use Rattle.calendar.specs.Dates.{leap, years_days, months_days}
 use Rattle.calendar.specs.Following.{Date, Time, date-is, time-is}
 use Rattle.calendar.specs.Moments.{day_number, moment, dated, timed}
 use Rattle.calendar.specs.declared.date_time.DateTime.{DateTime}

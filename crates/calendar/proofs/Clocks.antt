@@ -1,5 +1,5 @@
 -- When two clocks are one. Assumes nothing.
-use Rattle.std.proofs.Common.{◌≡◌, ℕ, Bool, true, false, cond, Ok, Err, Result, sym, refl, ap, ◌∙◌, subst, arith}
+use Rattle.std.proofs.Common.{◌≡◌, ℕ, Bool, true, false, cond, Ok, Err, Result, refl, subst, arith}
 use base.Stored.{Coded-set, coded_bool}
 use Rattle.calendar.specs.declared.date_time.Unfit.{Unfit}
 use Rattle.calendar.specs.declared.date_time.Unfit.TheVariants.{Date, Time}

@@ -1,7 +1,7 @@
 -- A second later, by the count. Assumes nothing.
-use Rattle.std.proofs.Common.{◌≡◌, ℕ, ◌+◌, ◌-◌, ◌*◌, ◌<◌, ◌≤◌, min, true, cond, sym, refl, ap, ◌∙◌, arith}
-use Rattle.calendar.specs.Dates.{leap, month_days, years_days, months_days}
-use Rattle.calendar.specs.Following.{Date, Time, date-is, time-is, month-low, by-next-day, by-next-second}
+use Rattle.std.proofs.Common.{◌≡◌, ℕ, ◌+◌, ◌-◌, ◌*◌, ◌<◌, ◌≤◌, min, true, ap, arith}
+use Rattle.calendar.specs.Dates.{month_days, years_days, months_days}
+use Rattle.calendar.specs.Following.{Date, date-is, time-is, month-low, by-next-day, by-next-second}
 use Rattle.calendar.specs.Moments.{dated, timed, day_number, moment, last_moment, midnight, next_second}
 use Rattle.calendar.specs.declared.date_time.DateTime.{DateTime}
 use Rattle.calendar.proofs.Days.{next-month, next-year, no-months, to-december, years-closed}

@@ -1,5 +1,5 @@
 -- What a message says: its form and values, or why it has none.
-use Rattle.std.specs.Prelude.{◌≡◌, ℕ, ◌+◌, ◌*◌, ◌/◌, Bool, true, false, cond, List, [], ◌∷◌, ◌++◌, length, take, drop, Some, None, Ok, Err, Option, Result, ◌==◌, slice_index}
+use Rattle.std.specs.Prelude.{ℕ, ◌+◌, ◌*◌, ◌/◌, cond, List, [], ◌∷◌, length, take, drop, Some, None, Ok, Err, Option, Result, ◌==◌, slice_index}
 use Rattle.std.specs.Borrow.{Bor}
 use Rattle.commands.specs.declared.command.Command.{Command}
 use Rattle.commands.specs.declared.command.Command.TheVariants.{StartSession, Password, Heartbeat, EndSession, SetTime, SetText, SetGraphic, SetMessage, SetPlan, GroupOrder, EnabledPlans, StoredRecord, FaultLog, EmptyFaultLog, OrderLog, Readings, ListStored}

@@ -1,5 +1,5 @@
 -- A command that sets a record sets no time and empties no log.
-use Rattle.std.proofs.Common.{◌≡◌, ℕ, true, is_some, Some, sym, refl, ap, ◌∙◌}
+use Rattle.std.proofs.Common.{◌≡◌, true, is_some, Some, sym, refl, ap, ◌∙◌}
 use Rattle.std.proofs.lemmas.Bool.{false≢true}
 use Rattle.calendar.specs.declared.clock.Clock.{Clock}
 use Rattle.commands.specs.Sent.{Sent, start_session, password, heartbeat, end_session, set_time, text, graphic, message, plan, group_order, enabled_plans, stored_record, fault_log, empty_fault_log, order_log, readings, list_stored, refused}

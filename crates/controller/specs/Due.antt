@@ -1,5 +1,5 @@
 -- What is due to a group, and what its signs then show.
-use Rattle.std.specs.Prelude.{ℕ, ◌-◌, Bool, true, false, cond, ◌&&◌, List, Some, None, Option, slice_index, slice_index_or}
+use Rattle.std.specs.Prelude.{ℕ, ◌-◌, Bool, false, cond, ◌&&◌, List, Some, None, Option, slice_index, slice_index_or}
 use Rattle.rack.specs.declared.look.Shape.{Shape}
 use Rattle.rack.specs.Face.{Face, dark, has}
 use Rattle.records.specs.declared.frame.Frame.{Frame}

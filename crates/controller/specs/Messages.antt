@@ -1,5 +1,5 @@
 -- What a message on the line makes of what every group sees.
-use Rattle.std.specs.Prelude.{ℕ, Bool, true, false, cond, List, Some, None, Option}
+use Rattle.std.specs.Prelude.{ℕ, List, Some, None, Option}
 use Rattle.calendar.specs.declared.clock.Clock.{Clock}
 use Rattle.calendar.specs.Clocks.{set_to}
 use Rattle.commands.specs.Sent.{Sent, start_session, password, heartbeat, end_session, set_time, text, graphic, message, plan, group_order, enabled_plans, stored_record, fault_log, empty_fault_log, order_log, readings, list_stored, refused}

@@ -1,5 +1,5 @@
 -- What each call makes of the controller as one group sees it, and what a list of calls makes of it.
-use Rattle.std.specs.Prelude.{◌≡◌, ℕ, ◌+◌, ◌-◌, ◌<◌, Bool, true, false, cond, ◌&&◌, List, [], ◌∷◌, ◌++◌, length, replicate, is_ok, Ok, Err, fold, Result, nat_le, slice_index, slice_set}
+use Rattle.std.specs.Prelude.{◌≡◌, ℕ, ◌+◌, ◌-◌, ◌<◌, Bool, true, false, cond, List, [], ◌∷◌, length, replicate, is_ok, Ok, Err, fold, Result, nat_le, slice_index, slice_set}
 use Rattle.analog.specs.declared.reading.Reading.{Reading as Measured}
 use Rattle.analog.specs.Slots.{slot_of, state_of, setting, set_to}
 use Rattle.calendar.specs.Clocks.{ticked}

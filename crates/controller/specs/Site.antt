@@ -1,8 +1,7 @@
 -- What commissioning leaves, as plain numbers.
-use Rattle.std.specs.Prelude.{ℕ, ◌+◌, Bool, true, false, cond, ◌&&◌, List, [], replicate, Ok, Err, Result, slice_set}
+use Rattle.std.specs.Prelude.{ℕ, ◌+◌, Bool, cond, List, replicate, Ok, Err, Result, slice_set}
 use Rattle.rack.specs.declared.refusal.Refusal.{Refusal}
-use Rattle.rack.specs.declared.refusal.Refusal.TheVariants.{ThirteenthSign, Unfit}
-use Rattle.rack.specs.Bank.{fitting}
+use Rattle.rack.specs.declared.refusal.Refusal.TheVariants.{Unfit}
 use Rattle.rack.specs.Face.{has}
 use Rattle.controller.specs.declared.site.Site.{Site}
 

@@ -1,5 +1,5 @@
 -- The state as service opens.
-use Rattle.std.specs.Prelude.{ℕ, true, replicate, None}
+use Rattle.std.specs.Prelude.{true, replicate, None}
 use Rattle.analog.specs.Slots.{at_first}
 use Rattle.calendar.specs.Clocks.{started}
 use Rattle.records.specs.Stores.{empty_store}

@@ -22,10 +22,10 @@ impl Controller {
         ensures site { self.new.site ≡ self.old.site }
         ensures state { (g : ℕ) → view g self.new ≡ (if is_made (length faults.old) call then step self.old.site (view g self.old) call else view g self.old) }
         ensures memory { faults.new ≡ memory_after self.old.site self.old.common call faults.old }
-        ensures faces { (k : ℕ) → k < self.old.site.signs → face rack.new (k + 1) ≡ (if moves call then face_due (view (sign_group self.old k) self.new) (takes rack.old (k + 1)) else face rack.old (k + 1)) }
-        ensures others { (k : ℕ) → self.old.site.signs ≤ k → face rack.new (k + 1) ≡ face rack.old (k + 1) }
-        ensures taking { SameTaking (takes rack.old) (takes rack.new) }
-        ensures count { signs rack.new ≡ signs rack.old }
+        ensures faces { (k : ℕ) → k < self.old.site.signs → R.face rack.new (k + 1) ≡ (if moves call then face_due (view (sign_group self.old k) self.new) (R.takes rack.old (k + 1)) else R.face rack.old (k + 1)) }
+        ensures others { (k : ℕ) → self.old.site.signs ≤ k → R.face rack.new (k + 1) ≡ R.face rack.old (k + 1) }
+        ensures taking { SameTaking (R.takes rack.old) (R.takes rack.new) }
+        ensures count { R.signs rack.new ≡ R.signs rack.old }
     {
         match call {
             Call::Line(_) => Ok(()),
@@ -53,11 +53,11 @@ impl Controller {
         ensures site { self.new.site ≡ self.old.site }
         ensures state { (g : ℕ) → view g self.new ≡ (if is_made (length faults.old) call then step self.old.site (view g self.old) call else view g self.old) }
         ensures memory { faults.new ≡ memory_after self.old.site self.old.common call faults.old }
-        ensures faces { (k : ℕ) → k < self.old.site.signs → face rack.new (k + 1) ≡ (if moves call then face_due (view (sign_group self.old k) self.new) (takes rack.old (k + 1)) else face rack.old (k + 1)) }
-        ensures others { (k : ℕ) → self.old.site.signs ≤ k → face rack.new (k + 1) ≡ face rack.old (k + 1) }
-        ensures taking { SameTaking (takes rack.old) (takes rack.new) }
-        ensures count { signs rack.new ≡ signs rack.old }
-        ensures reached { (s : AnySite) (h : List AnyCall) → Reached s (takes rack.old) h self.old (face rack.old) → Reached s (takes rack.new) (h ++ made (length faults.old) (call ∷ [])) self.new (face rack.new) }
+        ensures faces { (k : ℕ) → k < self.old.site.signs → R.face rack.new (k + 1) ≡ (if moves call then face_due (view (sign_group self.old k) self.new) (R.takes rack.old (k + 1)) else R.face rack.old (k + 1)) }
+        ensures others { (k : ℕ) → self.old.site.signs ≤ k → R.face rack.new (k + 1) ≡ R.face rack.old (k + 1) }
+        ensures taking { SameTaking (R.takes rack.old) (R.takes rack.new) }
+        ensures count { R.signs rack.new ≡ R.signs rack.old }
+        ensures reached { (s : AnySite) (h : List AnyCall) → Reached s (R.takes rack.old) h self.old (R.face rack.old) → Reached s (R.takes rack.new) (h ++ made (length faults.old) (call ∷ [])) self.new (R.face rack.new) }
     {
         self.act(rack, call, faults)
     }

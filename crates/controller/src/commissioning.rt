@@ -91,10 +91,10 @@ impl Commissioning {
     // Ends commissioning: darkens every sign and opens service.
     pub fn close<R: Rack>(self, rack: &mut R) -> Controller
         ensures opens { result ≡ opening self.site }
-        ensures dark { (s : ℕ) → face rack.new s ≡ dark }
-        ensures taking { SameTaking (takes rack.old) (takes rack.new) }
-        ensures count { signs rack.new ≡ signs rack.old }
-        ensures reached { Reached self.site (takes rack.new) [] result (face rack.new) }
+        ensures dark { (s : ℕ) → R.face rack.new s ≡ dark }
+        ensures taking { SameTaking (R.takes rack.old) (R.takes rack.new) }
+        ensures count { R.signs rack.new ≡ R.signs rack.old }
+        ensures reached { Reached self.site (R.takes rack.new) [] result (R.face rack.new) }
     {
         faces::darken_all(rack);
         Controller {

@@ -9,10 +9,10 @@ use records::frame::Frame;
 
 // Brings one sign to the face that is due to it: the frame, if there is one and the sign takes it, and darkness otherwise.
 pub fn refresh<R: Rack>(rack: &mut R, sign: u8, due: Option<&Frame>)
-    ensures face { face rack.new sign ≡ face_of (shown_by (takes rack.old sign) (option_map (λ x. x.now) due.entry)) }
-    ensures others { Elsewhere (face rack.old) (face rack.new) sign }
-    ensures taking { SameTaking (takes rack.old) (takes rack.new) }
-    ensures count { signs rack.new ≡ signs rack.old }
+    ensures face { R.face rack.new sign ≡ face_of (shown_by (R.takes rack.old sign) (option_map (λ x. x.now) due.entry)) }
+    ensures others { Elsewhere (R.face rack.old) (R.face rack.new) sign }
+    ensures taking { SameTaking (R.takes rack.old) (R.takes rack.new) }
+    ensures count { R.signs rack.new ≡ R.signs rack.old }
 {
     let shown = match due {
         Some(frame) => rack.show(sign, frame.look, frame.picture()).is_ok(),
@@ -25,10 +25,10 @@ pub fn refresh<R: Rack>(rack: &mut R, sign: u8, due: Option<&Frame>)
 
 // Brings every attached sign to the face that is due to it.
 pub fn settle<R: Rack>(controller: &Controller, rack: &mut R)
-    ensures faces { (k : ℕ) → k < controller.now.site.signs → face rack.new (k + 1) ≡ face_due (view (sign_group controller.now k) controller.now) (takes rack.old (k + 1)) }
-    ensures others { (k : ℕ) → controller.now.site.signs ≤ k → face rack.new (k + 1) ≡ face rack.old (k + 1) }
-    ensures taking { SameTaking (takes rack.old) (takes rack.new) }
-    ensures count { signs rack.new ≡ signs rack.old }
+    ensures faces { (k : ℕ) → k < controller.now.site.signs → R.face rack.new (k + 1) ≡ face_due (view (sign_group controller.now k) controller.now) (R.takes rack.old (k + 1)) }
+    ensures others { (k : ℕ) → controller.now.site.signs ≤ k → R.face rack.new (k + 1) ≡ R.face rack.old (k + 1) }
+    ensures taking { SameTaking (R.takes rack.old) (R.takes rack.new) }
+    ensures count { R.signs rack.new ≡ R.signs rack.old }
 {
     for k in 0..controller.site.signs {
         let group = controller.site.sign_groups[k as usize];
@@ -38,9 +38,9 @@ pub fn settle<R: Rack>(controller: &Controller, rack: &mut R)
 
 // Darkens every sign of a rack.
 pub fn darken_all<R: Rack>(rack: &mut R)
-    ensures dark { (s : ℕ) → face rack.new s ≡ dark }
-    ensures taking { SameTaking (takes rack.old) (takes rack.new) }
-    ensures count { signs rack.new ≡ signs rack.old }
+    ensures dark { (s : ℕ) → R.face rack.new s ≡ dark }
+    ensures taking { SameTaking (R.takes rack.old) (R.takes rack.new) }
+    ensures count { R.signs rack.new ≡ R.signs rack.old }
 {
     let count = rack.sign_count();
     for k in 0..count {

@@ -15,10 +15,10 @@ pub fn serve<R: Rack>(
     calls: &[Call],
     faults: &mut [FaultEntry],
 ) -> Controller
-    ensures shows_due { SignsShowDue commissioning.site (takes rack.old) (made (length faults.old) calls.now) (face rack.new) }
-    ensures reached { Reached commissioning.site (takes rack.new) (made (length faults.old) calls.now) result (face rack.new) }
-    ensures taking { SameTaking (takes rack.old) (takes rack.new) }
-    ensures count { signs rack.new ≡ signs rack.old }
+    ensures shows_due { SignsShowDue commissioning.site (R.takes rack.old) (made (length faults.old) calls.now) (R.face rack.new) }
+    ensures reached { Reached commissioning.site (R.takes rack.new) (made (length faults.old) calls.now) result (R.face rack.new) }
+    ensures taking { SameTaking (R.takes rack.old) (R.takes rack.new) }
+    ensures count { R.signs rack.new ≡ R.signs rack.old }
 {
     let mut controller = commissioning.close(rack);
     for call in calls {

@@ -28,10 +28,10 @@ impl Controller {
     // Takes a tick with its byte; faces follow.
     pub fn tick<R: Rack>(&mut self, rack: &mut R, byte: u8)
         ensures after { self.new ≡ record { site = self.old.site; common = after_tick self.old.site byte self.old.common; groups = self.old.groups } }
-        ensures faces { (k : ℕ) → k < self.new.site.signs → face rack.new (k + 1) ≡ face_due (view (sign_group self.new k) self.new) (takes rack.old (k + 1)) }
-        ensures others { (k : ℕ) → self.old.site.signs ≤ k → face rack.new (k + 1) ≡ face rack.old (k + 1) }
-        ensures taking { SameTaking (takes rack.old) (takes rack.new) }
-        ensures count { signs rack.new ≡ signs rack.old }
+        ensures faces { (k : ℕ) → k < self.new.site.signs → R.face rack.new (k + 1) ≡ face_due (view (sign_group self.new k) self.new) (R.takes rack.old (k + 1)) }
+        ensures others { (k : ℕ) → self.old.site.signs ≤ k → R.face rack.new (k + 1) ≡ R.face rack.old (k + 1) }
+        ensures taking { SameTaking (R.takes rack.old) (R.takes rack.new) }
+        ensures count { R.signs rack.new ≡ R.signs rack.old }
     {
         self.common.tick_byte = byte;
         self.common.clock.tick();
@@ -78,7 +78,7 @@ impl Controller {
 
     // The frame that an attached sign shows.
     pub fn frame_shown<R: Rack>(&self, rack: &R, sign: u8) -> Option<&Frame>
-        ensures { option_map (λ x. x.now) result ≡ shown_on self.now (takes rack.now) sign }
+        ensures { option_map (λ x. x.now) result ≡ shown_on self.now (R.takes rack.now) sign }
     {
         if sign == 0 || sign > self.site.signs {
             return None;

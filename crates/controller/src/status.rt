@@ -25,7 +25,7 @@ impl Controller {
     // The row of the sign at a place.
     fn row<R: Rack>(&self, rack: &R, place: u8) -> Row
         requires { place < self.now.site.signs }
-        ensures { result ≡ row_at self.now (takes rack.now) place }
+        ensures { result ≡ row_at self.now (R.takes rack.now) place }
     {
         let group = self.site.sign_groups[place as usize];
         Row {
@@ -40,7 +40,7 @@ impl Controller {
 
     // The rows of all attached signs, from the first place on.
     fn rows<R: Rack>(&self, rack: &R) -> [Row; 12]
-        ensures { take self.now.site.signs result ≡ rows_up_to self.now (takes rack.now) self.now.site.signs }
+        ensures { take self.now.site.signs result ≡ rows_up_to self.now (R.takes rack.now) self.now.site.signs }
     {
         let mut rows = [Row {
             sign: 0,
@@ -58,7 +58,7 @@ impl Controller {
 
     // The status, with an application error code.
     pub fn status<R: Rack>(&self, rack: &R, application_error: u8) -> Reply
-        ensures { result ≡ reply_of (status_of self.now (takes rack.now) application_error) }
+        ensures { result ≡ reply_of (status_of self.now (R.takes rack.now) application_error) }
     {
         let status = Status {
             online: self.common.session.is_open(),

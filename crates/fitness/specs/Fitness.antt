@@ -1,12 +1,10 @@
 -- Which values are fit.
 use Rattle.std.specs.Prelude.{ℕ, ◌+◌, ◌-◌, ◌*◌, ◌/◌, ◌%◌, ◌^◌, Bool, true, false, cond, ◌&&◌, List, [], ◌∷◌, length, Some, None, Option, ◌==◌, nat_le, nat_lt}
-use Rattle.commands.specs.declared.command.Order.{Order}
 use Rattle.fitness.specs.declared.judging.Place.{Place}
 use Rattle.fitness.specs.declared.judging.Place.TheVariants.{Conspicuity, Character}
 use Rattle.commands.specs.declared.lists.Span.{Span}
 use Rattle.commands.specs.declared.lists.Time.{Time}
 use Rattle.commands.specs.declared.lists.Line.{Line}
-use Rattle.commands.specs.declared.rejection.Rejection.{Rejection}
 use Rattle.commands.specs.Sent.{Sent, start_session, password, heartbeat, end_session, set_time, text, graphic, message, plan, group_order, enabled_plans, stored_record, fault_log, empty_fault_log, order_log, readings, list_stored, refused, stride}
 
 -- beacons 0 to 5 in bits 0 to 2, annulus 0 to 2 in bits 3 and 4, bits 5 to 7 zero; characters 20h to 7Eh

@@ -1,5 +1,5 @@
 -- The check word of a storing command: the last word, over all earlier bytes.
-use Rattle.std.specs.Prelude.{ℕ, ◌-◌, Bool, true, false, cond, ◌&&◌, List, length, take, ◌==◌, nat_le, slice_index}
+use Rattle.std.specs.Prelude.{ℕ, ◌-◌, Bool, true, cond, ◌&&◌, List, length, take, ◌==◌, nat_le, slice_index}
 use Rattle.wire.specs.CheckWord.{check_word}
 use Rattle.commands.specs.Sent.{word_at}
 

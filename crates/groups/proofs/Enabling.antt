@@ -2,7 +2,7 @@
 use Rattle.std.proofs.Common.{ℕ, ◌<◌, ◌≤◌, ltb, List, [], ◌∷◌, Some, None, Option, refl, arith}
 use Rattle.std.proofs.lemmas.Bool.{cond_both, ltb-true, ltb-false}
 use Rattle.std.proofs.lemmas.Bool.Decides.{nat_tests}
-use Rattle.groups.specs.Plans.{put, without, above, lesser, next_above, Joins, Leaves, Follows}
+use Rattle.groups.specs.Plans.{put, without, lesser, next_above, Joins, Leaves, Follows}
 
 pub put-joins : (xs : List (Option ℕ)) (n : ℕ) → Joins xs n (put xs n)
 put-joins [] n m = grind (arith, nat_tests)

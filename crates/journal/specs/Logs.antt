@@ -1,5 +1,5 @@
 -- A log of at most `bound` entries at the front of a memory, newest first. Assumes nothing.
-use Rattle.std.specs.Prelude.{ℕ, ◌+◌, min, cond, List, [], ◌∷◌, ◌++◌, take, drop, Ok, Err, Result, nat_le}
+use Rattle.std.specs.Prelude.{ℕ, ◌+◌, min, cond, List, ◌∷◌, ◌++◌, take, drop, Ok, Err, Result, nat_le}
 use Rattle.journal.specs.declared.Journal.{Journal}
 use Rattle.journal.specs.declared.Refusal.{Refusal}
 use Rattle.journal.specs.declared.Refusal.TheVariants.{ShortMemory}

@@ -1,5 +1,5 @@
 -- The first ground that stands decides.
-use Rattle.std.proofs.Common.{◌≡◌, Bool, true, false, cond, List, [], ◌∷◌, ◌++◌, sym, refl, ap, subst}
+use Rattle.std.proofs.Common.{◌≡◌, Bool, true, false, cond, List, [], ◌∷◌, sym, refl, ap, subst}
 use Rattle.commands.specs.Sent.{Sent}
 use Rattle.judging.specs.declared.rejection.Rejection.{Rejection}
 use Rattle.judging.specs.declared.rejection.Rejection.TheVariants.{UnknownCode, WrongLength, NotOpen, BadPassword, WrongCheckWord, Unfit, NotStored, Overlap}

@@ -1,5 +1,5 @@
 -- What was read as a command has a known code and its length, and what is left to judge.
-use Rattle.std.proofs.Common.{◌≡◌, ℕ, Bool, true, false, cond, ◌||◌, List, [], sym, refl, ap, ◌∙◌, subst}
+use Rattle.std.proofs.Common.{◌≡◌, ℕ, Bool, false, cond, ◌||◌, List, sym, refl, ap, ◌∙◌, subst}
 use Rattle.session.specs.declared.Session.{Session}
 use Rattle.commands.specs.declared.command.Command.{Command}
 use Rattle.commands.specs.declared.command.Command.TheVariants.{StartSession, Password, Heartbeat, EndSession, SetTime, SetText, SetGraphic, SetMessage, SetPlan, GroupOrder, EnabledPlans, StoredRecord, FaultLog, EmptyFaultLog, OrderLog, Readings, ListStored}

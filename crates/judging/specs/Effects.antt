@@ -1,7 +1,7 @@
 -- What a verdict means for the session and for the application error code.
 use Rattle.std.specs.Prelude.{◌≡◌, ℕ, Some, None, Option}
 use Rattle.session.specs.declared.Event.{Event}
-use Rattle.session.specs.declared.Event.TheVariants.{Start, RightWord, WrongWord, Heartbeat, End, Tick}
+use Rattle.session.specs.declared.Event.TheVariants.{Start, RightWord, WrongWord, Heartbeat, End}
 use Rattle.session.specs.declared.Session.{Session}
 use Rattle.session.specs.declared.Session.TheVariants.{Closed, Seeded, Open}
 use Rattle.session.specs.Sessions.{after}

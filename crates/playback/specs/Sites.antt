@@ -1,5 +1,5 @@
 -- The site that the programs run: two text signs of 16 characters, sign 1 in group 1 and sign 2 in group 2.
-use Rattle.std.specs.Prelude.{◌≡◌, ℕ, Bool, false, cond}
+use Rattle.std.specs.Prelude.{◌≡◌, ℕ, false, cond}
 use Rattle.rack.specs.declared.look.Shape.{Shape}
 use Rattle.rack.specs.declared.text.TextRack.{TextRack}
 use Rattle.rack.specs.Face.{dark, has}

@@ -1,5 +1,5 @@
 -- A picture of 32 rows and columns at most fits the face memory.
-use Rattle.std.proofs.Common.{◌≡◌, ℕ, ◌+◌, ◌*◌, ◌/◌, ◌≤◌, true, mul-le-mul, arith}
+use Rattle.std.proofs.Common.{◌≡◌, ◌*◌, ◌≤◌, true, mul-le-mul, arith}
 use Rattle.std.proofs.lemmas.Bool.Decides.{nat_tests}
 use Rattle.rack.specs.declared.look.Shape.{Shape}
 use Rattle.rack.specs.declared.lane.LaneSign.{LaneSign}

@@ -1,5 +1,5 @@
 -- The signs of a single rack: their numbers, their faces and what they take.
-use Rattle.std.specs.Prelude.{ℕ, ◌+◌, ◌-◌, Bool, true, false, cond, List, map, Some, None, Ok, Err, Option, Result, nat_le, slice_index_or}
+use Rattle.std.specs.Prelude.{ℕ, ◌+◌, ◌-◌, Bool, false, cond, List, map, Some, None, Ok, Err, Option, Result, nat_le, slice_index_or}
 use Rattle.rack.specs.declared.look.Shape.{Shape}
 use Rattle.rack.specs.declared.bank.Bank.{Bank}
 use Rattle.rack.specs.declared.refusal.Refusal.{Refusal}

@@ -1,5 +1,5 @@
 -- What a sign shows, and what decides whether a sign takes a picture.
-use Rattle.std.specs.Prelude.{◌≡◌, ℕ, ◌<◌, Bool, ◌&&◌, List, [], length, Some, None, Option, ◌≢◌, nat_le}
+use Rattle.std.specs.Prelude.{◌≡◌, ℕ, Bool, ◌&&◌, List, [], Some, None, Option, ◌≢◌, nat_le}
 use Rattle.rack.specs.declared.look.Look.{Look}
 use Rattle.rack.specs.declared.look.Shape.{Shape}
 

@@ -1,5 +1,5 @@
 -- A joined rack has one rack's signs, then another's; signs past 255 are lacking.
-use Rattle.std.specs.Prelude.{ℕ, ◌+◌, ◌-◌, min, Bool, true, false, cond, nat_le}
+use Rattle.std.specs.Prelude.{ℕ, ◌+◌, ◌-◌, min, Bool, false, cond, nat_le}
 use Rattle.rack.specs.declared.look.Shape.{Shape}
 use Rattle.rack.specs.Face.{Face, dark}
 

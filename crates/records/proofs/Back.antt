@@ -1,17 +1,17 @@
 -- The command of a record is the very message that set it.
-use Rattle.std.proofs.Common.{◌≡◌, ℕ, zero, suc, ◌+◌, ◌-◌, ◌*◌, ◌/◌, ◌%◌, ◌<◌, ◌≤◌, Bool, true, false, cond, ◌&&◌, eqb, ltb, leb, ◌⊎◌, List, [], ◌∷◌, ◌++◌, map, length, get_or, take, drop, replicate, Some, None, Option, sym, refl, ap, ◌∙◌, subst, inl, inr, ⊎_elim, mul-le-mul, add-one, arith}
-use Rattle.std.proofs.lemmas.List.{take-append-drop, drop_more, drop_all, drop-drop, length-take, length-take-le, length-drop, take_all, take_at}
-use Rattle.std.proofs.lemmas.Bool.{cond_both, cond-true, cond-false, eqb-true, leb-true, and_parts, cases_Bool, eq-eqb, ne_eqb}
+use Rattle.std.proofs.Common.{◌≡◌, ℕ, zero, suc, ◌+◌, ◌-◌, ◌*◌, ◌/◌, ◌%◌, ◌<◌, ◌≤◌, true, ◌&&◌, eqb, leb, List, [], ◌∷◌, ◌++◌, map, length, get_or, take, drop, replicate, None, sym, refl, ap, ◌∙◌, ⊎_elim, mul-le-mul, add-one, arith}
+use Rattle.std.proofs.lemmas.List.{take-append-drop, drop_more, drop_all, drop-drop, length-take-le, length-drop, take_all, take_at}
+use Rattle.std.proofs.lemmas.Bool.{cond_both, cond-true, cond-false, eqb-true, and_parts, cases_Bool, eq-eqb}
 use Rattle.std.proofs.lemmas.Bool.Decides.{nat_tests}
 use Rattle.std.specs.List.{flat_map}
 use Rattle.commands.specs.declared.command.Order.TheVariants.{Reset, Frame, Message, EnablePlan, DisablePlan, Power, Enable}
 use Rattle.commands.specs.declared.lists.Line.{Line}
-use Rattle.commands.specs.declared.rejection.Rejection.TheVariants.{UnknownCode, WrongLength}
-use Rattle.commands.specs.Sent.{Sent, start_session, password, heartbeat, end_session, set_time, text, graphic, message, plan, group_order, enabled_plans, stored_record, fault_log, empty_fault_log, order_log, readings, list_stored, refused, exactly, coded, word_at, stride, spans_at, line_at, lines_at, password_form, time_form, text_form, graphic_form, message_form, plan_form, order_form, record_form, list_form, parsed}
-use Rattle.fitness.specs.Fitness.{fit, text_fits, graphic_fits, filled_line, blank_line, listed, listed_from, blank_from, unused_clear, minutes_of}
-use Rattle.records.specs.AnyRecords.{record_of, bytes_of, Bytes, GivesBack}
-use Rattle.records.specs.Frames.{pictured, counted, shown, text_frame, graphic_frame, frame_bytes}
-use Rattle.records.specs.Messages.{message_bytes, pair_of}
+use Rattle.commands.specs.declared.rejection.Rejection.TheVariants.{WrongLength}
+use Rattle.commands.specs.Sent.{Sent, start_session, password, heartbeat, end_session, set_time, group_order, enabled_plans, stored_record, fault_log, empty_fault_log, order_log, readings, list_stored, refused, exactly, coded, word_at, stride, line_at, lines_at, text_form, graphic_form, message_form, plan_form, parsed}
+use Rattle.fitness.specs.Fitness.{fit, text_fits, graphic_fits, filled_line, blank_line, listed, listed_from, blank_from}
+use Rattle.records.specs.AnyRecords.{record_of, Bytes, GivesBack}
+use Rattle.records.specs.Frames.{pictured, counted, text_frame, graphic_frame, frame_bytes}
+use Rattle.records.specs.Messages.{message_bytes}
 use Rattle.records.specs.Plans.{entry_of, line_of, plan_of, plan_bytes}
 use Rattle.records.specs.Writing.{word_bytes, command_of}
 

@@ -1,9 +1,9 @@
 -- The laws of a numbered store: what is put is found, all else stays, and records keep to their numbers.
-use Rattle.std.proofs.Common.{◌≡◌, ℕ, ◌+◌, ◌-◌, ◌<◌, ◌≤◌, true, false, cond, leb, List, length, get_or, set, replicate, Some, None, Option, sym, refl, ap, ◌∙◌, ⊎_elim, arith}
+use Rattle.std.proofs.Common.{◌≡◌, ℕ, ◌-◌, ◌≤◌, true, false, cond, leb, List, length, get_or, set, replicate, Some, None, Option, sym, ap, ◌∙◌, ⊎_elim, arith}
 use Rattle.std.proofs.lemmas.List.{get_or-set_same, get_or-set_other, length-set, get_or-replicate, get_or_past, length-replicate}
 use Rattle.std.proofs.lemmas.Bool.{cases_eq, cases_lt, cond-true, cond-false, cases_Bool}
 use Rattle.std.proofs.lemmas.Bool.Decides.{nat_tests}
-use Rattle.records.specs.Slots.{has_slot, slot_of, placed, Elsewhere, Numbered}
+use Rattle.records.specs.Slots.{has_slot, slot_of, Elsewhere, Numbered}
 
 module _ {R : Type 0} where
   pub numbered-set : (N : R → ℕ) (xs : List (Option R)) (n : ℕ) (r : R) → N r ≡ n → 1 ≤ n → n ≤ length xs

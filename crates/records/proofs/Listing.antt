@@ -1,8 +1,8 @@
 -- The steps of the loop that writes a listing.
-use Rattle.std.proofs.Common.{◌≡◌, ℕ, ◌+◌, ◌*◌, ◌/◌, ◌%◌, ◌<◌, ◌≤◌, cond, leb, List, [], ◌∷◌, ◌++◌, length, get_or, take, drop, Some, None, Option, sym, refl, ap, ◌∙◌, arith}
+use Rattle.std.proofs.Common.{◌≡◌, ℕ, ◌+◌, ◌*◌, ◌/◌, ◌%◌, ◌<◌, ◌≤◌, leb, List, [], ◌∷◌, ◌++◌, length, get_or, take, drop, Some, None, Option, sym, ap, ◌∙◌, arith}
 use Rattle.std.proofs.lemmas.List.{append_assoc, drop_more, drop_all, drop-drop, append-nil, take-append-drop, length-take-le}
 use Rattle.std.proofs.lemmas.Bool.{cond-true, cond-false, le-leb, lt-leb}
-use Rattle.records.specs.Slots.{kept, entry_of, listing, listing_room, listing_laid}
+use Rattle.records.specs.Slots.{entry_of, listing, listing_room, listing_laid}
 
 module _ {R : Type 0} (N C : R → ℕ) (slots : List (Option R)) (first : List ℕ) (from : ℕ) where
   -- what stands in front, with what is yet to be listed, is the whole listing; the rest is untouched

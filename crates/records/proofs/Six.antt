@@ -1,5 +1,5 @@
 -- A list of six, part by part.
-use Rattle.std.proofs.Common.{◌≡◌, ℕ, ◌<◌, ◌≤◌, List, [], ◌∷◌, length, get_or, arith}
+use Rattle.std.proofs.Common.{◌≡◌, List, [], ◌∷◌, length, get_or, arith}
 use Rattle.std.proofs.lemmas.List.{drop_more, drop_all}
 
 pub six : {X : Type 0} (xs : List X) (d : X) → length xs ≡ 6

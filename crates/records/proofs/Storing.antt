@@ -1,11 +1,10 @@
 -- The laws of the store: what is put is found, all else stays, and records keep to their numbers.
-use Rattle.std.proofs.Common.{◌≡◌, ℕ, ◌-◌, ◌≤◌, true, false, List, length, set, replicate, Some, None, Option, sym, refl, ap, ◌∙◌, ⊎_elim, arith}
-use Rattle.std.proofs.lemmas.List.{length-set, length-replicate}
+use Rattle.std.proofs.Common.{◌≡◌, ℕ, ◌-◌, ◌≤◌, true, false, List, length, set, Some, Option, refl, ap, ◌∙◌, ⊎_elim, arith}
+use Rattle.std.proofs.lemmas.List.{length-set}
 use Rattle.std.proofs.lemmas.Bool.{cond-true, cond-false, cases_Bool}
 use Rattle.std.specs.Option.{option_map}
 use Rattle.records.specs.declared.any_record.AnyRecord.{AnyRecord}
 use Rattle.records.specs.declared.any_record.AnyRecord.TheVariants.{Frame, Message, Plan}
-use Rattle.records.specs.declared.any_record.RecordKind.{RecordKind}
 use Rattle.records.specs.declared.any_record.RecordKind.TheVariants.{Frame as frames, Message as messages, Plan as plans}
 use Rattle.records.specs.declared.store.Store.{Store}
 use Rattle.records.specs.Slots.{has_slot, slot_of, placed, Elsewhere, Numbered}

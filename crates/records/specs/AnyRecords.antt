@@ -1,7 +1,6 @@
 -- Records of any kind: what a command sets, and the command that a record came by.
-use Rattle.std.specs.Prelude.{◌≡◌, ℕ, ◌<◌, true, cond, List, Some, None, Option, ◌==◌, slice_index}
+use Rattle.std.specs.Prelude.{◌≡◌, ℕ, ◌<◌, cond, List, Some, None, Option, ◌==◌, slice_index}
 use Rattle.commands.specs.Sent.{Sent, start_session, password, heartbeat, end_session, set_time, text, graphic, message, plan, group_order, enabled_plans, stored_record, fault_log, empty_fault_log, order_log, readings, list_stored, refused}
-use Rattle.fitness.specs.Fitness.{fit}
 use Rattle.records.specs.declared.any_record.AnyRecord.{AnyRecord}
 use Rattle.records.specs.declared.any_record.AnyRecord.TheVariants.{Frame, Message, Plan}
 use Rattle.records.specs.declared.any_record.RecordKind.{RecordKind}

@@ -1,5 +1,5 @@
 -- Frames: what is kept of a text or a graphic, the face that it makes, and the command that it came by.
-use Rattle.std.specs.Prelude.{ℕ, ◌-◌, min, List, [], ◌∷◌, ◌++◌, length, take, replicate}
+use Rattle.std.specs.Prelude.{ℕ, ◌-◌, List, [], ◌∷◌, ◌++◌, length, take, replicate}
 use Rattle.rack.specs.declared.look.Kind.{Kind}
 use Rattle.rack.specs.declared.look.Kind.TheVariants.{Text, Graphic}
 use Rattle.rack.specs.declared.look.Shape.{Shape}

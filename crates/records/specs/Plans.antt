@@ -1,11 +1,10 @@
 -- Plans: which entry covers a minute, what two plans share, and the command that a plan came by.
-use Rattle.std.specs.Prelude.{◌≡◌, ℕ, zero, suc, ◌+◌, ◌*◌, ◌/◌, ◌%◌, ◌^◌, ◌<◌, min, max, Bool, true, false, cond, ◌&&◌, List, [], ◌∷◌, map, is_some, Some, None, Option, ◌==◌, nat_le, nat_lt, slice_index_or}
+use Rattle.std.specs.Prelude.{◌≡◌, ℕ, zero, suc, ◌/◌, ◌%◌, ◌^◌, ◌<◌, min, max, Bool, true, false, cond, ◌&&◌, List, [], ◌∷◌, map, is_some, Some, None, Option, ◌==◌, nat_le, nat_lt, slice_index_or}
 use Rattle.std.specs.List.{flat_map}
 use Rattle.commands.specs.declared.lists.Line.{Line}
 use Rattle.fitness.specs.Fitness.{minutes_of}
 use Rattle.records.specs.declared.plan.Entry.{Entry}
 use Rattle.records.specs.declared.plan.Plan.{Plan}
-use Rattle.records.specs.declared.plan.Shows.{Shows}
 use Rattle.records.specs.declared.plan.Shows.TheVariants.{Frame, Message}
 use Rattle.records.specs.Writing.{command_of}
 

@@ -1,5 +1,5 @@
 -- The store: frames, messages and plans, each kind numbered from 1 to 255.
-use Rattle.std.specs.Prelude.{◌≡◌, ℕ, List, ◌++◌, length, replicate, Some, None, Option, ◌≢◌}
+use Rattle.std.specs.Prelude.{◌≡◌, ℕ, List, ◌++◌, length, replicate, None, Option, ◌≢◌}
 use Rattle.std.specs.Option.{option_map}
 use Rattle.wire.specs.CheckWord.{check_word}
 use Rattle.records.specs.declared.any_record.AnyRecord.{AnyRecord}

@@ -1,17 +1,17 @@
-use Rattle.std.proofs.Common.{◌≡◌, ℕ, ◌+◌, Bool, cond, sym, ap, ◌∙◌, arith}
+use Rattle.std.proofs.Common.{◌≡◌, ℕ, ◌+◌, Bool, cond, ap, ◌∙◌, arith}
 use Rattle.analog.specs.Codes.{count, mark_from, degree_mark}
 use Rattle.analog.proofs.Counts.{count_same, count-le}
 use Rattle.analog.proofs.Degrees.{near-degrees}
 use Rattle.analog.proofs.Marks.{coldest, degree-marks}
 use Rattle.analog.proofs.reading.celsius_code.Goals as goal
 
-pub overflow-add-result : goal.overflow-add-result
-overflow-add-result c = omega (arith, c.marks-reached.ensures, count-le (mark_from coldest) 100 c.args.degrees)
+pub overflow_add-result : goal.overflow_add-result
+overflow_add-result c = omega (arith, c.marks_reached.ensures, count-le (mark_from coldest) 100 c.args.degrees)
 
-pub returns-else-is-nan : goal.returns-else-is-nan
-returns-else-is-nan c =
-    let e : c.marks-reached.result ≡ count degree_mark 100 c.args.degrees = c.marks-reached.ensures ∙ count_same (mark_from coldest) degree_mark 100 c.args.degrees degree-marks in
+pub returns-else-is_nan : goal.returns-else-is_nan
+returns-else-is_nan c =
+    let e : c.marks_reached.result ≡ count degree_mark 100 c.args.degrees = c.marks_reached.ensures ∙ count_same (mark_from coldest) degree_mark 100 c.args.degrees degree-marks in
     record {
-      value = ap (λ (z : ℕ). 80 + z) e ∙ ap (λ (b : Bool). cond b 0 (80 + count degree_mark 100 c.args.degrees)) c.if-is-nan.ensures.value;
-      near = λ l u. near-degrees c.marks-reached.result c.args.degrees e (omega arith) (omega arith);
+      value = ap (λ (z : ℕ). 80 + z) e ∙ ap (λ (b : Bool). cond b 0 (80 + count degree_mark 100 c.args.degrees)) c.if-is_nan.ensures.value;
+      near = λ l u. near-degrees c.marks_reached.result c.args.degrees e (omega arith) (omega arith);
     }

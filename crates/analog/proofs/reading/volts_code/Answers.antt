@@ -9,5 +9,5 @@ use Rattle.analog.proofs.reading.volts_code.Goals as goal
 pub returns : goal.returns
 unfolding of_bits
 returns c =
-    let e : c.marks-reached.result ≡ volts_code c.args.volts = c.marks-reached.ensures ∙ count_same (mark_from (of_bits binary32 0x3f000000)) volt_mark 255 (tenfold c.args.volts) volt-marks in
-    record { value = e; near = near c.marks-reached.result c.args.volts e }
+    let e : c.marks_reached.result ≡ volts_code c.args.volts = c.marks_reached.ensures ∙ count_same (mark_from (of_bits binary32 0x3f000000)) volt_mark 255 (tenfold c.args.volts) volt-marks in
+    record { value = e; near = near c.marks_reached.result c.args.volts e }

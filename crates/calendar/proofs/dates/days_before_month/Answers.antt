@@ -7,4 +7,4 @@ loop-m-init c = omega (arith, no-months c.args.year)
 
 pub loop-m-preserved : goal.loop-m-preserved
 loop-m-preserved c =
-    omega (arith, next-month c.args.year c.loop-m.m c.loop-m.auto.m, month-high c.args.year c.loop-m.m, c.month-days.ensures)
+    omega (arith, next-month c.args.year c.loop-m.m c.loop-m.auto.m, month-high c.args.year c.loop-m.m, c.month_days.ensures)

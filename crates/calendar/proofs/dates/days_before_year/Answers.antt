@@ -1,4 +1,4 @@
-use Rattle.std.proofs.Common.{◌≡◌, ℕ, ◌-◌, ap, ◌∙◌, arith}
+use Rattle.std.proofs.Common.{ℕ, ◌-◌, ap, ◌∙◌, arith}
 use Rattle.calendar.specs.Dates.{years_days}
 use Rattle.calendar.proofs.Days.{years-difference, years-bound}
 use Rattle.calendar.proofs.dates.days_before_year.Goals as goal

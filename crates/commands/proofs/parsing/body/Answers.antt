@@ -1,4 +1,4 @@
-use Rattle.std.proofs.Common.{◌≡◌, ℕ, ◌+◌, ◌-◌, ◌≤◌, List, length, take, drop, sym, ap, ◌∙◌, arith, rules}
+use Rattle.std.proofs.Common.{◌≡◌, ℕ, ◌+◌, ◌-◌, ◌≤◌, List, length, take, drop, arith, rules}
 use Rattle.std.proofs.lemmas.List.{length-take, drop-take, take_all, length-take-le}
 use Rattle.commands.proofs.parsing.body.Goals as goal
 

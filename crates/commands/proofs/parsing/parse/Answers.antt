@@ -1,4 +1,4 @@
-use Rattle.std.proofs.Common.{◌≡◌, ℕ, List, [], length, get_or, sym, ap, rules}
+use Rattle.std.proofs.Common.{◌≡◌, ℕ, List, length, get_or, sym, ap, rules}
 use Rattle.std.proofs.lemmas.List.{nil_from_length}
 use Rattle.commands.specs.Sent.{form_of, parsed}
 use Rattle.commands.proofs.parsing.parse.Goals as goal
@@ -129,6 +129,6 @@ returns-in-255 c =
     let e : get_or c.args.sent.now 0 0 ≡ 255 = search rules in
     let q = at_code c.args.sent.now 255 e in cc
 
-pub returns-in-default : goal.returns-in-default
+pub returns-in_default : goal.returns-in_default
 unfolding parsed
-returns-in-default c = search rules
+returns-in_default c = search rules

@@ -2,9 +2,9 @@ use Rattle.std.proofs.Common.{◌+◌, ◌/◌, ◌≤◌, get_or, mul-le-mul, a
 use Rattle.commands.specs.Sent.{graphic_form}
 use Rattle.commands.proofs.parsing.set_graphic.Goals as goal
 
-pub returns-in-default : goal.returns-in-default
+pub returns-in_default : goal.returns-in_default
 unfolding graphic_form
-returns-in-default c = search rules
+returns-in_default c = search rules
 
 pub returns-in-Some : goal.returns-in-Some
 unfolding graphic_form
@@ -16,6 +16,6 @@ returns-in-None c = search rules
 
 pub body-requires : goal.body-requires
 body-requires c =
-    let r : get_or c.args.sent.now 3 0 ≤ 255 = omega (arith, c.type-inv.sent 3) in
-    let d : (get_or c.args.sent.now 4 0 + 7) / 8 ≤ 32 = omega (arith, c.type-inv.sent 4) in
+    let r : get_or c.args.sent.now 3 0 ≤ 255 = omega (arith, c.type_inv.sent 3) in
+    let d : (get_or c.args.sent.now 4 0 + 7) / 8 ≤ 32 = omega (arith, c.type_inv.sent 4) in
     omega (arith, mul-le-mul r d)

@@ -2,9 +2,9 @@ use Rattle.std.proofs.Common.{rules}
 use Rattle.commands.specs.Sent.{message_form}
 use Rattle.commands.proofs.parsing.set_message.Goals as goal
 
-pub returns-in-default : goal.returns-in-default
+pub returns-in_default : goal.returns-in_default
 unfolding message_form
-returns-in-default c = search rules
+returns-in_default c = search rules
 
 pub returns-in-Some : goal.returns-in-Some
 unfolding message_form

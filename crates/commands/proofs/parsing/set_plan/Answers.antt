@@ -2,9 +2,9 @@ use Rattle.std.proofs.Common.{rules}
 use Rattle.commands.specs.Sent.{plan_form}
 use Rattle.commands.proofs.parsing.set_plan.Goals as goal
 
-pub returns-in-default : goal.returns-in-default
+pub returns-in_default : goal.returns-in_default
 unfolding plan_form
-returns-in-default c = search rules
+returns-in_default c = search rules
 
 pub returns-in-Some : goal.returns-in-Some
 unfolding plan_form

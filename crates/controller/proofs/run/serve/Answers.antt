@@ -1,4 +1,4 @@
-use Rattle.std.proofs.Common.{◌≡◌, ℕ, ◌+◌, ◌<◌, [], ◌∷◌, ◌++◌, length, get_or, take, sym, refl, ap, ◌∙◌, subst, arith}
+use Rattle.std.proofs.Common.{◌≡◌, ◌+◌, ◌<◌, [], ◌∷◌, ◌++◌, length, get_or, take, sym, refl, ap, ◌∙◌, subst, arith}
 use Rattle.rack.specs.Face.{SameTaking}
 use Rattle.controller.specs.declared.call.Call.TheVariants.{Line}
 use Rattle.controller.specs.Run.{view_after, made, Reached}
@@ -40,7 +40,7 @@ returns g c =
     = subst (λ s. Reached s (g.R.Rack.takes rack) (made lent calls) c.loop-call.controller (g.R.Rack.face rack)) (ap (λ x. x.site) e.opens)
     (reached-all lent _ (g.R.Rack.takes rack) calls c.loop-call.call-index c.loop-call.controller (g.R.Rack.face rack) c.loop-call-test.false c.loop-call.invariant.0) in
     record {
-      shows-due = λ k lt. all.faces k lt
+      shows_due = λ k lt. all.faces k lt
           ∙ sym (due-same (view_after site (get_or site.sign_groups k 0) (made lent calls)) (g.R.Rack.takes c.args.rack.now (k + 1)) (g.R.Rack.takes rack (k + 1)) (same (k + 1)));
       reached = all;
       taking = same;

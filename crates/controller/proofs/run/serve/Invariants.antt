@@ -1,4 +1,4 @@
-use Rattle.std.proofs.Common.{◌≡◌, ℕ, length, take}
+use Rattle.std.proofs.Common.{◌≡◌, length, take}
 use Rattle.rack.specs.Face.{SameTaking}
 use Rattle.controller.specs.Run.{made, Reached}
 use Rattle.controller.proofs.run.serve.Given as goal

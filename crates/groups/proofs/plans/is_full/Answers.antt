@@ -4,15 +4,15 @@ use Rattle.groups.specs.Plans.{full}
 use Rattle.groups.proofs.Slots.{full-look}
 use Rattle.groups.proofs.plans.is_full.Goals as goal
 
-pub returns-then-is-none : goal.returns-then-is-none
-returns-then-is-none c =
+pub returns-then-is_none : goal.returns-then-is_none
+returns-then-is_none c =
     look_hit full (λ x _. not (is_some x)) (λ _. false) full-look c.args.slots.now c.loop-slot.slot-index
-    None (omega arith) (ap not c.if-is-none.ensures) c.loop-slot.invariant
+    None (omega arith) (ap not c.if-is_none.ensures) c.loop-slot.invariant
 
 pub loop-slot-preserved : goal.loop-slot-preserved
 loop-slot-preserved c =
     look-on full (λ x _. not (is_some x)) (λ _. false) full-look c.args.slots.now c.loop-slot.slot-index
-    None (omega arith) (ap not c.if-is-none.ensures) c.loop-slot.invariant
+    None (omega arith) (ap not c.if-is_none.ensures) c.loop-slot.invariant
 
 pub returns : goal.returns
 returns c =

@@ -15,6 +15,6 @@ returns g c =
     record {
       answer = rw t;
       book = rw t (λ i. record { count = r i });
-      memory = rw t (appended c.args.newest g.row.BOUND log room memory c.push-front.new.part _ w r c.push-front.ensures refl);
-      log = λ _. lists c.args.newest g.row.BOUND log room memory c.push-front.new.part _ w r c.push-front.ensures;
+      memory = rw t (appended c.args.newest g.row.BOUND log room memory c.push_front.new.part _ w r c.push_front.ensures refl);
+      log = λ _. lists c.args.newest g.row.BOUND log room memory c.push_front.new.part _ w r c.push_front.ensures;
     }

@@ -1,4 +1,4 @@
-use Rattle.std.proofs.Common.{◌≡◌, ℕ, length, sym, ap, rules}
+use Rattle.std.proofs.Common.{◌≡◌, length, sym, ap, rules}
 use Rattle.std.proofs.lemmas.List.{nil_from_length}
 use Rattle.judging.specs.Conditions.{ordering}
 use Rattle.judging.proofs.grounds.is_order.Goals as goal

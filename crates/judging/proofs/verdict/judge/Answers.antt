@@ -1,4 +1,3 @@
-use Rattle.std.proofs.Common.{rules}
 use Rattle.commands.specs.Sent.{parsed}
 use Rattle.judging.specs.Judgements.{against, judged, judgement}
 use Rattle.judging.specs.Rejections.{in_order}
@@ -10,6 +9,6 @@ unfolding judged
 returns c = record {
   verdict = c.decide.ensures;
   first = grounded-at
-      (against c.args.session c.args.seed-offset c.args.password-offset c.args.store.now c.args.message.now (parsed c.args.message.now))
+      (against c.args.session c.args.seed_offset c.args.password_offset c.args.store.now c.args.message.now (parsed c.args.message.now))
       (parsed c.args.message.now) in_order (judgement c.decide.result) c.decide.ensures;
 }

@@ -1,4 +1,4 @@
-use Rattle.std.proofs.Common.{◌≡◌, false, cond, ap, ◌∙◌, rules}
+use Rattle.std.proofs.Common.{false, ◌∙◌, rules}
 use Rattle.std.proofs.lemmas.Bool.{cond-false}
 use Rattle.rack.specs.Face.{dark}
 use Rattle.rack.specs.Text.{text_takes, text_rack_takes}
@@ -7,8 +7,8 @@ use Rattle.playback.proofs.site.text_rack.Goals as goal
 
 pub returns : goal.returns
 returns c =
-    let one = c.in-ok-fit.ensures in
-    let two = c.in-ok-fit-2.ensures in
+    let one = c.in_ok-fit.ensures in
+    let two = c.in_ok-fit-2.ensures in
     let none = c.new-rack.ensures in
     let empty = c.new-rack.result in
     record {

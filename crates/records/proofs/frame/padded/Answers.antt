@@ -6,4 +6,4 @@ padded : (xs ys : List ℕ) → ys ≡ xs → ys ++ drop (length xs - 0) (replic
 padded xs ys e = let z : length xs - 0 ≡ length xs = omega arith in let d = drop-replicate {X = ℕ} (length xs) 128 0 in rw (e, z, d)
 
 pub returns : goal.returns
-returns c = padded c.args.bytes.now c.copy-from-slice.new.self c.copy-from-slice.ensures.after
+returns c = padded c.args.bytes.now c.copy_from_slice.new.self c.copy_from_slice.ensures.after

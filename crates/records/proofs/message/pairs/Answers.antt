@@ -1,4 +1,4 @@
-use Rattle.std.proofs.Common.{◌≡◌, sym, ap, ◌∙◌, arith}
+use Rattle.std.proofs.Common.{arith}
 use Rattle.records.specs.Messages.{pair_of, span}
 use Rattle.records.proofs.Parts.{part-more, part-all}
 use Rattle.records.proofs.message.pairs.Goals as goal

@@ -1,6 +1,6 @@
-use Rattle.std.proofs.Common.{◌≡◌, ℕ, true, List, None, Option, sym, refl, ◌∙◌, arith}
+use Rattle.std.proofs.Common.{List, None, Option, sym, refl, ◌∙◌, arith}
 use Rattle.records.specs.declared.plan.Entry.{Entry}
-use Rattle.records.specs.Plans.{covered, covering, meet, meets_any, any_meet, clashing}
+use Rattle.records.specs.Plans.{covered, covering}
 use Rattle.records.proofs.Looking.{look_hit, look-on, look-all}
 use Rattle.records.proofs.plan.covering.Goals as goal
 

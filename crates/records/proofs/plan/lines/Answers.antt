@@ -5,7 +5,7 @@ use Rattle.records.proofs.plan.lines.Goals as goal
 
 pub loop-entry-preserved : goal.loop-entry-preserved
 loop-entry-preserved c =
-    let e = c.line-of.ensures in (
+    let e = c.line_of.ensures in (
       omega (arith, c.loop-entry.invariant.0),
       omega (arith, c.loop-entry.invariant.1),
       part-more line_of c.args.entries.now c.loop-entry.entry-index None c.loop-entry.lines c.put-at.new.out c.loop-entry.at c.put-at.result (omega arith)

@@ -1,6 +1,5 @@
-use Rattle.std.proofs.Common.{◌≡◌, ℕ, true, List, None, Option, sym, refl, ◌∙◌, arith}
-use Rattle.records.specs.declared.plan.Entry.{Entry}
-use Rattle.records.specs.Plans.{covered, covering, meet, meets_any, any_meet, clashing}
+use Rattle.std.proofs.Common.{true, None, sym, refl, ◌∙◌, arith}
+use Rattle.records.specs.Plans.{meet, meets_any}
 use Rattle.records.proofs.Looking.{look_hit, look-on, look-all}
 use Rattle.records.proofs.plan.meets_any.Goals as goal
 

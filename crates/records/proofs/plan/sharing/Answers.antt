@@ -2,10 +2,10 @@ use Rattle.std.proofs.Common.{rules}
 use Rattle.records.specs.Plans.{shares}
 use Rattle.records.proofs.plan.sharing.Goals as goal
 
-pub returns-then-common-day : goal.returns-then-common-day
+pub returns-then-common_day : goal.returns-then-common_day
 unfolding shares
-returns-then-common-day c = search rules
+returns-then-common_day c = search rules
 
-pub returns-else-common-day : goal.returns-else-common-day
+pub returns-else-common_day : goal.returns-else-common_day
 unfolding shares
-returns-else-common-day c = search rules
+returns-else-common_day c = search rules

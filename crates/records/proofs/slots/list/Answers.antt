@@ -10,6 +10,6 @@ returns-then-out-slots g c =
 
 pub returns : goal.returns
 returns g c =
-    let p = all_listed g.R.Record.numbered g.R.Record.checked c.args.slots.now c.args.out.now c.list-from.new.out c.list-from.result
-    c.if-out-slots.false (omega arith) c.list-from.ensures.most c.list-from.ensures.front c.list-from.ensures.rest in
+    let p = all_listed g.R.Record.numbered g.R.Record.checked c.args.slots.now c.args.out.now c.list_from.new.out c.list_from.result
+    c.if-out-slots.false (omega arith) c.list_from.ensures.most c.list_from.ensures.front c.list_from.ensures.rest in
     record { count = p.0; bytes = p.1; rising = rising g.R.Record.numbered c.args.slots.now }

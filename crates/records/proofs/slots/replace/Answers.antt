@@ -1,5 +1,4 @@
-use Rattle.std.proofs.Common.{◌≡◌, ℕ, ◌-◌, set, Some, sym, ap, ◌∙◌, subst, arith, rules}
-use Rattle.records.specs.Slots.{slot_of, Elsewhere}
+use Rattle.std.proofs.Common.{Some, sym, arith, rules}
 use Rattle.records.proofs.Keeping.{numbered-set, found, elsewhere, has-from}
 use Rattle.records.proofs.slots.replace.Goals as goal
 

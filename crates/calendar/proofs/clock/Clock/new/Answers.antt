@@ -1,4 +1,4 @@
-use Rattle.std.proofs.Common.{◌≡◌, refl, arith}
+use Rattle.std.proofs.Common.{refl, arith}
 use Rattle.calendar.specs.Clocks.{started}
 use Rattle.calendar.proofs.Clocks.{same-shown}
 use Rattle.calendar.proofs.Days.{years-closed, no-months}

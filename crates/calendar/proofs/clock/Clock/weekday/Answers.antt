@@ -1,4 +1,4 @@
-use Rattle.std.proofs.Common.{◌≡◌, ℕ, ◌+◌, ◌-◌, ◌%◌, refl, ap, ◌∙◌, subst, arith}
+use Rattle.std.proofs.Common.{◌≡◌, ℕ, ◌+◌, ◌-◌, ◌%◌, refl, ap, ◌∙◌, arith}
 use Rattle.calendar.specs.Dates.{years_days, months_days}
 use Rattle.calendar.specs.Moments.{OnDate, day_number}
 use Rattle.calendar.specs.Weekdays.{weekday_number}
@@ -23,5 +23,5 @@ first-day t h = λ i. years_days (h.2 i - 1) + (months_days (h.2 i) (h.1 i - 1) 
 pub returns : goal.returns
 returns c =
     let t = c.args.self.now.shown in
-    let e : weekday_number c.of-day.result ≡ day_number t % 7 = c.of-day.ensures ∙ ap (λ (n : ℕ). n % 7) c.day-number.ensures in
-    record { number = e; monday = λ h. is-monday c.of-day.result (e ∙ ap (λ (n : ℕ). n % 7) (first-day t h)) }
+    let e : weekday_number c.of_day.result ≡ day_number t % 7 = c.of_day.ensures ∙ ap (λ (n : ℕ). n % 7) c.day_number.ensures in
+    record { number = e; monday = λ h. is-monday c.of_day.result (e ∙ ap (λ (n : ℕ). n % 7) (first-day t h)) }

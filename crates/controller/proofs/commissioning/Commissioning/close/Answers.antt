@@ -1,5 +1,4 @@
-use Rattle.std.proofs.Common.{◌≡◌, rules}
-use Rattle.controller.specs.Run.{opening}
+use Rattle.std.proofs.Common.{rules}
 use Rattle.controller.proofs.Reaching.{reached-none}
 use Rattle.controller.proofs.commissioning.Commissioning.close.Goals as goal
 
@@ -7,8 +6,8 @@ pub returns : goal.returns
 returns g c =
     record {
       opens = search rules;
-      dark = c.darken-all.ensures.dark;
-      taking = c.darken-all.ensures.taking;
-      count = c.darken-all.ensures.count;
-      reached = reached-none c.args.self.site _ _ _ (search rules) c.darken-all.ensures.dark;
+      dark = c.darken_all.ensures.dark;
+      taking = c.darken_all.ensures.taking;
+      count = c.darken_all.ensures.count;
+      reached = reached-none c.args.self.site _ _ _ (search rules) c.darken_all.ensures.dark;
     }

@@ -1,6 +1,6 @@
-use Rattle.std.proofs.Common.{◌≡◌, ℕ, ◌+◌, cond, leb, length, is_ok, sym, refl, ap, ◌∙◌, rules}
+use Rattle.std.proofs.Common.{◌+◌, cond, leb, length, is_ok, sym, refl, ap, ◌∙◌}
 use Rattle.rack.specs.Face.{has}
-use Rattle.controller.specs.Due.{View, view, group_at, face_due, sign_group}
+use Rattle.controller.specs.Due.{view, group_at, face_due, sign_group}
 use Rattle.controller.specs.Run.{answer, is_made, step, moves, memory_after, with_report, faults_after}
 use Rattle.controller.proofs.Reports.{report-state}
 use Rattle.controller.proofs.service.Controller.act.Goals as goal

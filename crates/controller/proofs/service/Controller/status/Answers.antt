@@ -9,6 +9,6 @@ pub returns : goal.returns
 returns g c =
     let ctl = c.args.self.now in
     c.status.ensures.state
-    ∙ told_same c.args.application-error c.is-open.result (is_open ctl.common.session) c.date-time.result ctl.common.clock.shown c.checksum.result (checksum_of ctl.common.store) _ (rows_up_to ctl (g.R.Rack.takes c.args.rack.now) ctl.site.signs)
-    c.is-open.ensures c.date-time.ensures c.checksum.ensures
+    ∙ told_same c.args.application_error c.is_open.result (is_open ctl.common.session) c.date_time.result ctl.common.clock.shown c.checksum.result (checksum_of ctl.common.store) _ (rows_up_to ctl (g.R.Rack.takes c.args.rack.now) ctl.site.signs)
+    c.is_open.ensures c.date_time.ensures c.checksum.ensures
     (rows-of-part ctl.site.signs c.rows-rows.result _ ctl.site.few c.rows-rows.ensures)

@@ -6,6 +6,6 @@ use Rattle.groups.proofs.group.GroupRecord.due.Goals as goal
 
 pub returns : goal.returns
 returns c = record {
-  value = c.kept-due.ensures;
-  order = subst (λ (r : Option Due). AnyOrder c.args.store.now c.args.clock.now.shown c.args.self.now r) (sym c.kept-due.ensures) (any_order c.args.store.now c.args.clock.now.shown c.args.self.now);
+  value = c.kept_due.ensures;
+  order = subst (λ (r : Option Due). AnyOrder c.args.store.now c.args.clock.now.shown c.args.self.now r) (sym c.kept_due.ensures) (any_order c.args.store.now c.args.clock.now.shown c.args.self.now);
 }

@@ -6,14 +6,14 @@ pub returns-then-not-self : goal.returns-then-not-self
 unfolding due_of
 returns-then-not-self c = search rules
 
-pub returns-in-err-due : goal.returns-in-err-due
+pub returns-in_err-due : goal.returns-in_err-due
 unfolding due_of
-returns-in-err-due c = search rules
+returns-in_err-due c = search rules
 
-pub returns-then-is-kept : goal.returns-then-is-kept
+pub returns-then-is_kept : goal.returns-then-is_kept
 unfolding due_of
-returns-then-is-kept c = search rules
+returns-then-is_kept c = search rules
 
-pub returns-else-is-kept : goal.returns-else-is-kept
+pub returns-else-is_kept : goal.returns-else-is_kept
 unfolding due_of
-returns-else-is-kept c = search rules
+returns-else-is_kept c = search rules

@@ -6,6 +6,6 @@ use Rattle.groups.proofs.group.GroupRecord.obey.Goals as goal
 
 pub returns : goal.returns
 returns c = record {
-  after = c.carry-out.ensures;
-  apart = subst (λ (g : GroupRecord). StaysApart c.args.self.now c.args.order c.args.operand g) (sym c.carry-out.ensures) (stays-apart c.args.self.now c.args.order c.args.operand);
+  after = c.carry_out.ensures;
+  apart = subst (λ (g : GroupRecord). StaysApart c.args.self.now c.args.order c.args.operand g) (sym c.carry_out.ensures) (stays-apart c.args.self.now c.args.order c.args.operand);
 }

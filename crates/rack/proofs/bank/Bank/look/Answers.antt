@@ -1,11 +1,10 @@
-use Rattle.std.proofs.Common.{sym, ap, ◌∙◌, arith}
-use Rattle.std.proofs.lemmas.Bool.Decides.{nat_tests}
+use Rattle.std.proofs.Common.{sym, ap, ◌∙◌}
 use Rattle.rack.specs.Face.{look_of}
 use Rattle.rack.proofs.Tables.{shown-at, has_within}
 use Rattle.rack.proofs.bank.Bank.look.Goals as goal
 
 pub returns : goal.returns
 returns c =
-    let h = has_within c.args.self.now.count c.args.sign (sym c.if-not-has-sign.ensures) in
+    let h = has_within c.args.self.now.count c.args.sign (sym c.if-not-has_sign.ensures) in
     c.look.ensures
     ∙ ap look_of (sym (shown-at c.args.self.now.count c.args.self.now.panels c.args.sign h.0 h.1))

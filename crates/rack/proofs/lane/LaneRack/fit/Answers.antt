@@ -1,5 +1,4 @@
 use Rattle.std.proofs.Common.{arith, rules}
-use Rattle.std.proofs.lemmas.Bool.Decides.{nat_tests}
 use Rattle.rack.specs.Lane.{lane_sign_takes}
 use Rattle.rack.proofs.Tables.{fitted-takes}
 use Rattle.rack.proofs.lane.LaneRack.fit.Goals as goal

@@ -1,4 +1,4 @@
-use Rattle.std.proofs.Common.{ap, ◌∙◌, arith, rules}
+use Rattle.std.proofs.Common.{arith, rules}
 use Rattle.rack.proofs.Tables.{take_within}
 use Rattle.rack.proofs.panel.Panel.picture.Goals as goal
 

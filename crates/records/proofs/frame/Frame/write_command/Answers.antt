@@ -15,14 +15,14 @@ pub returns-in-Text : goal.returns-in-Text
 returns-in-Text c =
     let e = bytes_of c.args.self.now Text c.picture.result.now c.in-Text.is c.picture.ensures in
     record {
-      count = c.put-command.ensures.count ∙ ap (λ (bs : List ℕ). room_for bs c.args.out.now) e;
-      bytes = c.put-command.ensures.bytes ∙ ap (λ (bs : List ℕ). laid bs c.args.out.now) e;
+      count = c.put_command.ensures.count ∙ ap (λ (bs : List ℕ). room_for bs c.args.out.now) e;
+      bytes = c.put_command.ensures.bytes ∙ ap (λ (bs : List ℕ). laid bs c.args.out.now) e;
     }
 
 pub returns-in-Graphic : goal.returns-in-Graphic
 returns-in-Graphic c =
     let e = bytes_of c.args.self.now Graphic c.picture-in-Graphic.result.now c.in-Graphic.is c.picture-in-Graphic.ensures in
     record {
-      count = c.put-command-in-Graphic.ensures.count ∙ ap (λ (bs : List ℕ). room_for bs c.args.out.now) e;
-      bytes = c.put-command-in-Graphic.ensures.bytes ∙ ap (λ (bs : List ℕ). laid bs c.args.out.now) e;
+      count = c.put_command-in-Graphic.ensures.count ∙ ap (λ (bs : List ℕ). room_for bs c.args.out.now) e;
+      bytes = c.put_command-in-Graphic.ensures.bytes ∙ ap (λ (bs : List ℕ). laid bs c.args.out.now) e;
     }

@@ -2,10 +2,10 @@ use Rattle.std.proofs.Common.{rules}
 use Rattle.records.specs.Plans.{entry_at}
 use Rattle.records.proofs.plan.Plan.entry_at.Goals as goal
 
-pub returns-then-runs-on : goal.returns-then-runs-on
+pub returns-then-runs_on : goal.returns-then-runs_on
 unfolding entry_at
-returns-then-runs-on c = search rules
+returns-then-runs_on c = search rules
 
-pub returns-else-runs-on : goal.returns-else-runs-on
+pub returns-else-runs_on : goal.returns-else-runs_on
 unfolding entry_at
-returns-else-runs-on c = search rules
+returns-else-runs_on c = search rules

@@ -1,5 +1,4 @@
-use Rattle.std.proofs.Common.{◌≡◌, ℕ, List, [], ◌∷◌, map, length, sym, ap, arith}
-use Rattle.commands.specs.declared.lists.Line.{Line}
+use Rattle.std.proofs.Common.{◌≡◌, map, length, ap, arith}
 use Rattle.records.specs.Plans.{entry_of, plan_of}
 use Rattle.records.proofs.Six.{six}
 use Rattle.records.proofs.plan.Plan.new.Goals as goal

@@ -1,5 +1,5 @@
-use Rattle.std.proofs.Common.{◌≡◌, Bool, Decides, sym, subst}
-use Rattle.records.specs.Plans.{Overlapping, SharesMinute}
+use Rattle.std.proofs.Common.{Bool, Decides, sym, subst}
+use Rattle.records.specs.Plans.{Overlapping}
 use Rattle.records.proofs.Sharing.{clashing-meaning}
 use Rattle.records.proofs.plan.Plan.overlaps_itself.Goals as goal
 

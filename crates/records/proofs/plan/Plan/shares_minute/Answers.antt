@@ -1,5 +1,5 @@
-use Rattle.std.proofs.Common.{◌≡◌, Bool, Decides, sym, subst}
-use Rattle.records.specs.Plans.{Overlapping, SharesMinute}
+use Rattle.std.proofs.Common.{Bool, Decides, sym, subst}
+use Rattle.records.specs.Plans.{SharesMinute}
 use Rattle.records.proofs.Sharing.{shares-meaning}
 use Rattle.records.proofs.plan.Plan.shares_minute.Goals as goal
 

@@ -1,4 +1,4 @@
-use Rattle.std.proofs.Common.{◌≡◌, ℕ, ◌-◌, List, [], ◌++◌, take, sym, ap, ◌∙◌, arith}
+use Rattle.std.proofs.Common.{◌≡◌, ℕ, ◌-◌, List, [], ◌++◌, take, ap, ◌∙◌, arith}
 use Rattle.std.proofs.lemmas.List.{append_assoc}
 use Rattle.wire.specs.CheckWord.{check_word}
 use Rattle.records.specs.declared.any_record.RecordKind.TheVariants.{Frame, Message, Plan}
@@ -13,8 +13,8 @@ three l₁ l₂ l₃ a b d i j k p q r =
 pub returns : goal.returns
 unfolding checksum_of
 returns c =
-    c.check-word.ensures.word
-    ∙ ap check_word (three c.list-from-frames.new.out c.list-from-messages.new.out c.list-from-end.new.out
+    c.check_word.ensures.word
+    ∙ ap check_word (three c.list_from-frames.new.out c.list_from-messages.new.out c.list_from-end.new.out
     (listing_of c.args.self.now Frame) (listing_of c.args.self.now Message) (listing_of c.args.self.now Plan)
-    c.list-from-frames.result c.list-from-messages.result c.list-from-end.result
-    c.list-from-frames.ensures.front c.list-from-messages.ensures.front c.list-from-end.ensures.front)
+    c.list_from-frames.result c.list_from-messages.result c.list_from-end.result
+    c.list_from-frames.ensures.front c.list_from-messages.ensures.front c.list_from-end.ensures.front)

@@ -1,4 +1,4 @@
-use Rattle.std.proofs.Common.{◌≡◌, ℕ, List, length, replicate, None, Option, sym, ap, ◌∙◌, subst, arith, rules}
+use Rattle.std.proofs.Common.{◌≡◌, ℕ, List, length, replicate, None, Option, ap, ◌∙◌, arith}
 use Rattle.records.specs.Slots.{Numbered}
 use Rattle.records.specs.Stores.{frame_number, message_number, plan_number}
 use Rattle.records.proofs.Keeping.{none-numbered}

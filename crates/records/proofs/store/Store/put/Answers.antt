@@ -1,6 +1,6 @@
 use Rattle.std.proofs.Common.{◌≡◌, ◌≤◌, Some, sym, subst}
 use Rattle.records.specs.declared.store.Store.{Store}
-use Rattle.records.specs.Stores.{stored, record_at, kind_of, number_of, Untouched, Lawful}
+use Rattle.records.specs.Stores.{record_at, kind_of, number_of, Untouched, Lawful}
 use Rattle.records.proofs.Storing.{stored-found, stored-others, stored-lawful}
 use Rattle.records.proofs.store.Store.put.Goals as goal
 

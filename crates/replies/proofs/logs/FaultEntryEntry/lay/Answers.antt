@@ -1,4 +1,4 @@
-use Rattle.std.proofs.Common.{◌≡◌, ℕ, [], ◌∷◌, ◌++◌, ap, ◌∙◌}
+use Rattle.std.proofs.Common.{ℕ, [], ◌∷◌, ◌++◌, ap, ◌∙◌}
 use Rattle.replies.specs.Dates.{date_time_bytes}
 use Rattle.replies.specs.Logs.{event_number}
 use Rattle.replies.specs.Reply.{extended}
@@ -11,6 +11,6 @@ returns c =
     let r = c.args.reply.now in
     let entry = e.sign ∷ e.entry ∷ [] in
     let event = e.code ∷ event_number e.event ∷ [] in
-    let p = c.extend-2.ensures.state ∙ ap (λ (n : ℕ). extended c.push-date-time.new.self (c.args.self.now.code ∷ n ∷ [])) c.number.ensures in
-    let q = next r c.extend.new.self c.push-date-time.new.self entry (date_time_bytes e.at) c.extend.ensures.state c.push-date-time.ensures in
-    next r c.push-date-time.new.self c.extend-2.new.self (entry ++ date_time_bytes e.at) event q p
+    let p = c.extend-2.ensures.state ∙ ap (λ (n : ℕ). extended c.push_date_time.new.self (c.args.self.now.code ∷ n ∷ [])) c.number.ensures in
+    let q = next r c.extend.new.self c.push_date_time.new.self entry (date_time_bytes e.at) c.extend.ensures.state c.push_date_time.ensures in
+    next r c.push_date_time.new.self c.extend-2.new.self (entry ++ date_time_bytes e.at) event q p

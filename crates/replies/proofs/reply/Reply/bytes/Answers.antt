@@ -1,4 +1,4 @@
-use Rattle.std.proofs.Common.{arith, rules}
+use Rattle.std.proofs.Common.{rules}
 use Rattle.replies.specs.Reply.{contents}
 use Rattle.replies.proofs.reply.Reply.bytes.Goals as goal
 

@@ -10,5 +10,5 @@ unfolding enabled_plans_reply
 returns c =
     let some = take 96 c.args.plans.now in
     let s = started c.new-reply.result c.push.new.self (0x13 ∷ []) c.new-reply.ensures.state c.push.ensures.state in
-    let e = filled c.push.new.self c.push-list.new.self (0x13 ∷ []) (list_bytes enabled_plan_bytes some) s c.push-list.ensures in
-    record { state = e; bytes = holds c.push-list.new.self (enabled_plans_reply some) e (omega (arith, list-short enabled_plan_bytes 2 96 c.args.plans.now (λ _. refl))) }
+    let e = filled c.push.new.self c.push_list.new.self (0x13 ∷ []) (list_bytes enabled_plan_bytes some) s c.push_list.ensures in
+    record { state = e; bytes = holds c.push_list.new.self (enabled_plans_reply some) e (omega (arith, list-short enabled_plan_bytes 2 96 c.args.plans.now (λ _. refl))) }

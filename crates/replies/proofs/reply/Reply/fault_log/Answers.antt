@@ -10,5 +10,5 @@ unfolding fault_log_reply
 returns c =
     let some = take 20 c.args.entries.now in
     let s = started c.new-reply.result c.push.new.self (0x19 ∷ []) c.new-reply.ensures.state c.push.ensures.state in
-    let e = filled c.push.new.self c.push-list.new.self (0x19 ∷ []) (list_bytes fault_bytes some) s c.push-list.ensures in
-    record { state = e; bytes = holds c.push-list.new.self (fault_log_reply some) e (omega (arith, list-short fault_bytes 11 20 c.args.entries.now (λ _. refl))) }
+    let e = filled c.push.new.self c.push_list.new.self (0x19 ∷ []) (list_bytes fault_bytes some) s c.push_list.ensures in
+    record { state = e; bytes = holds c.push_list.new.self (fault_log_reply some) e (omega (arith, list-short fault_bytes 11 20 c.args.entries.now (λ _. refl))) }

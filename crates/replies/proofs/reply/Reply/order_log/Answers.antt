@@ -10,5 +10,5 @@ unfolding order_log_reply
 returns c =
     let some = take 64 c.args.entries.now in
     let s = started c.new-reply.result c.push.new.self (0xF5 ∷ []) c.new-reply.ensures.state c.push.ensures.state in
-    let e = filled c.push.new.self c.push-list.new.self (0xF5 ∷ []) (list_bytes order_bytes some) s c.push-list.ensures in
-    record { state = e; bytes = holds c.push-list.new.self (order_log_reply some) e (omega (arith, list-short order_bytes 3 64 c.args.entries.now (λ _. refl))) }
+    let e = filled c.push.new.self c.push_list.new.self (0xF5 ∷ []) (list_bytes order_bytes some) s c.push_list.ensures in
+    record { state = e; bytes = holds c.push_list.new.self (order_log_reply some) e (omega (arith, list-short order_bytes 3 64 c.args.entries.now (λ _. refl))) }

@@ -8,8 +8,8 @@ loop-each-init g c = extended_none c.args.self.now
 
 pub loop-each-preserved : goal.loop-each-preserved
 loop-each-preserved g c =
-    entries-more g.T.Entry.laid c.args.self.now c.loop-each.self c.lay.new.reply c.args.entries.now c.loop-each.Each-index c.each-item.result
+    entries-more g.T.Entry.laid c.args.self.now c.loop-each.self c.lay.new.reply c.args.entries.now c.loop-each.each-index c.each-item.result
     c.loop-each-test.true c.each-item.is c.loop-each.invariant c.lay.ensures
 
 pub returns : goal.returns
-returns g c = entries-all g.T.Entry.laid c.args.self.now c.loop-each.self c.args.entries.now c.loop-each.Each-index (omega arith) c.loop-each.invariant
+returns g c = entries-all g.T.Entry.laid c.args.self.now c.loop-each.self c.args.entries.now c.loop-each.each-index (omega arith) c.loop-each.invariant

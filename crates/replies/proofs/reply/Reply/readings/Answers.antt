@@ -1,4 +1,4 @@
-use Rattle.std.proofs.Common.{◌≡◌, ℕ, List, [], ◌∷◌, ◌++◌, ap, ◌∙◌, lit≤}
+use Rattle.std.proofs.Common.{[], ◌∷◌, ap, ◌∙◌, lit≤}
 use Rattle.analog.specs.Slots.{report_bytes}
 use Rattle.replies.specs.Reply.{extended}
 use Rattle.replies.specs.Readings.{readings_reply}

@@ -5,5 +5,5 @@ use Rattle.replies.proofs.stored.ListedEntry.lay.Goals as goal
 
 pub returns : goal.returns
 returns c =
-    next c.args.reply.now c.push.new.self c.push-word.new.self (c.args.self.now.number ∷ []) (word c.args.self.now.check)
-    c.push.ensures.state c.push-word.ensures.state
+    next c.args.reply.now c.push.new.self c.push_word.new.self (c.args.self.now.number ∷ []) (word c.args.self.now.check)
+    c.push.ensures.state c.push_word.ensures.state

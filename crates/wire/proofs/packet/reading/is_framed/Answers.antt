@@ -13,8 +13,8 @@ returns-then-len c = grind (arith, nat_tests)
 pub returns-then-third-c : goal.returns-then-third-c
 unfolding framed closed
 returns-then-third-c c =
-    let w : c.check-word.result ≡ check_word (take (length c.args.bytes.now - 5) c.args.bytes.now) = simp sub-zero at c.check-word.ensures.word in
-    let d = c.word-digits.ensures ∙ ap (λ (v : ℕ). in_digits (bytes_of v)) w in
+    let w : c.check_word.result ≡ check_word (take (length c.args.bytes.now - 5) c.args.bytes.now) = simp sub-zero at c.check_word.ensures.word in
+    let d = c.word_digits.ensures ∙ ap (λ (v : ℕ). in_digits (bytes_of v)) w in
     let d0 = ap (λ (ds : List ℕ). get_or ds 0 0) d in
     let d1 = ap (λ (ds : List ℕ). get_or ds 1 0) d in
     let d2 = ap (λ (ds : List ℕ). get_or ds 2 0) d in
@@ -24,8 +24,8 @@ returns-then-third-c c =
 pub returns-else-third-c : goal.returns-else-third-c
 unfolding framed closed
 returns-else-third-c c =
-    let w : c.check-word.result ≡ check_word (take (length c.args.bytes.now - 5) c.args.bytes.now) = simp sub-zero at c.check-word.ensures.word in
-    let d = c.word-digits.ensures ∙ ap (λ (v : ℕ). in_digits (bytes_of v)) w in
+    let w : c.check_word.result ≡ check_word (take (length c.args.bytes.now - 5) c.args.bytes.now) = simp sub-zero at c.check_word.ensures.word in
+    let d = c.word_digits.ensures ∙ ap (λ (v : ℕ). in_digits (bytes_of v)) w in
     let d0 = ap (λ (ds : List ℕ). get_or ds 0 0) d in
     let d1 = ap (λ (ds : List ℕ). get_or ds 1 0) d in
     let d2 = ap (λ (ds : List ℕ). get_or ds 2 0) d in

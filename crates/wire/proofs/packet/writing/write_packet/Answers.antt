@@ -12,7 +12,7 @@ returns c =
     let some : 1 ≤ length c.args.message.now = search rules in
     let l = length-encode c.args.number c.args.address c.args.message.now in
     let k : c.fill.result ≡ 2 * length c.args.message.now + 11 = omega arith in
-    let fits = All-from_get_or (λ b. b < 256) c.args.message.now 0 (λ i h. omega (arith, c.type-inv.message i)) in
+    let fits = All-from_get_or (λ b. b < 256) c.args.message.now 0 (λ i h. omega (arith, c.type_inv.message i)) in
     let w = laid c.args.out.now (encode c.args.number c.args.address c.args.message.now) c.fill.new.out c.fill.result c.fill.ensures.bytes c.fill.ensures.long in
     record {
       long = grind (arith, nat_tests);

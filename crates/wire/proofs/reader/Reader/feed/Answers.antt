@@ -6,9 +6,9 @@ use Rattle.wire.specs.Packet.{decode}
 use Rattle.wire.specs.Reader.{next, taken, held}
 use Rattle.wire.proofs.reader.Reader.feed.Goals as goal
 
-pub returns-in-default-eq1 : goal.returns-in-default-eq1
+pub returns-in_default-eq1 : goal.returns-in_default-eq1
 unfolding next taken
-returns-in-default-eq1 c =
+returns-in_default-eq1 c =
     let t : take 1 (set c.args.self.now.gathered 0 1) ≡ 1 ∷ [] = take_more_set c.args.self.now.gathered 0 1 (omega arith) in
     record { state = grind (arith, nat_tests); packet = grind (arith, nat_tests) }
 

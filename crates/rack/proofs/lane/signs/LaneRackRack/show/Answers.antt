@@ -1,5 +1,4 @@
-use Rattle.std.proofs.Common.{◌≡◌, true, length, sym, ap, ◌∙◌, arith}
-use Rattle.std.proofs.lemmas.Bool.Decides.{nat_tests}
+use Rattle.std.proofs.Common.{◌≡◌, true, length, sym, ap, ◌∙◌}
 use Rattle.rack.specs.Face.{shape_of}
 use Rattle.rack.specs.Lane.{lane_sign_takes, lane_rack_takes}
 use Rattle.rack.proofs.Matrix.{matrix-fits}
