@@ -36,13 +36,13 @@ fn known_check_words(rt: HostRuntime) {
 fn worked_packet(rt: HostRuntime) -> Result<(), Fail> {
     let mut out = [0xEE; 20];
     assert_eq!(rt; write_packet(&mut out, 0x2A, 1, b"\x0E\x01\x05"), Some(17));
-    assert!(rt; &out[0..17] == b"\x012A01\x020E0105749C\x03");
-    assert!(rt; &out[17..20] == b"\xEE\xEE\xEE");
+    assert!(rt; &out[0..17] == b"\x012A01\x020E0105749C\x03".as_slice());
+    assert!(rt; &out[17..20] == b"\xEE\xEE\xEE".as_slice());
     match Packet::read(b"\x012A01\x020E0105749C\x03") {
         Some(packet) => {
             assert_eq!(rt; packet.number, 0x2A);
             assert_eq!(rt; packet.address, 1);
-            assert!(rt; packet.message() == b"\x0E\x01\x05");
+            assert!(rt; packet.message() == b"\x0E\x01\x05".as_slice());
             Ok(())
         }
         None => Err(Fail::new("not read")),
@@ -89,7 +89,7 @@ fn longest(rt: HostRuntime) {
     let mut reader = Reader::new();
     let mut out = [b'0'; 1549];
     assert_eq!(rt; write_packet(&mut out, 0, 0xFF, &[0; 768]), Some(1547));
-    assert!(rt; &out[1542..1547] == b"DBA3\x03");
+    assert!(rt; &out[1542..1547] == b"DBA3\x03".as_slice());
     assert_eq!(rt; packets_taken(&out[0..1547]), 1);
     for byte in &out[0..1546] {
         assert!(rt; reader.feed(*byte).is_none());
