@@ -4,7 +4,7 @@ use lib.Bits.{bit_xor, xor_block, xor_assoc, xor_comm, xor_shifted, xor_shr, xor
 use Rattle.std.proofs.lemmas.Nat.{pow_pos}
 use Rattle.std.proofs.lemmas.Bool.Decides.{nat_tests}
 use Rattle.std.proofs.lemmas.Bool.{cases_lt, eqb-true, and_parts}
-use Rattle.std.specs.List.{AllByRecursion as All}
+use Rattle.std.specs.List.{AllByRecursion}
 use Rattle.wire.specs.CheckWord.{shifted, shifts, fed, check_word, tabled_from, tabled, Example}
 
 pub shifted-low : (w : ℕ) → w < 32768 → shifted w ≡ w * 2
@@ -132,11 +132,11 @@ fed-small : (w b : ℕ) → w < 65536 → b < 256 → fed w b < 65536
 unfolding fed
 fed-small w b h k = shifts-lt 8 (bit_xor w (b * 256)) (xor_lt 16 w (b * 256) h (omega arith))
 
-folded-small : (bs : List ℕ) (w : ℕ) → w < 65536 → All (λ b. b < 256) bs → fold fed w bs < 65536
+folded-small : (bs : List ℕ) (w : ℕ) → w < 65536 → AllByRecursion (λ b. b < 256) bs → fold fed w bs < 65536
 folded-small [] w h a = h
 folded-small (b ∷ bs) w h a = folded-small bs (fed w b) (fed-small w b h a.0) a.1
 
-pub word_small : (bs : List ℕ) → All (λ b. b < 256) bs → check_word bs < 65536
+pub word_small : (bs : List ℕ) → AllByRecursion (λ b. b < 256) bs → check_word bs < 65536
 unfolding check_word
 word_small bs a = folded-small bs 0 (omega arith) a
 

@@ -1,7 +1,7 @@
 -- The laws of the reader: SOH starts afresh, noise leaves no trace, a packet is taken whole and has just come.
 use Rattle.std.proofs.Common.{◌≡◌, ℕ, ◌+◌, ◌/◌, ◌%◌, ◌<◌, ◌≤◌, Bool, true, false, cond, eqb, ltb, List, [], ◌∷◌, ◌++◌, length, get_or, take, is_some, Some, None, Option, sym, refl, ap, ◌∙◌, subst, inl, inr, arith}
 use Rattle.std.specs.Option.{option_map, option_to_list}
-use Rattle.std.specs.List.{AllByRecursion as All}
+use Rattle.std.specs.List.{AllByRecursion}
 use Rattle.std.proofs.lemmas.Bool.Decides.{nat_tests}
 use Rattle.std.proofs.lemmas.Bool.{cases_eq, cond-false, ne_eqb}
 use Rattle.std.proofs.lemmas.List.{append_assoc, append-nil, length-append, length_push, take_more}
@@ -126,7 +126,7 @@ pub record Gathers (g xs : List ℕ) : Type 0 where
   pub state : run (gathering g) xs ≡ gathering (g ++ xs)
   pub none : takes (gathering g) xs ≡ []
 
-gathers : (g xs : List ℕ) → All Plain xs → length g + length xs ≤ 1547 → Gathers g xs
+gathers : (g xs : List ℕ) → AllByRecursion Plain xs → length g + length xs ≤ 1547 → Gathers g xs
 gathers g [] a h = record { state = ap gathering (sym (append-nil g)); none = refl }
 gathers g (x ∷ xs) a h =
     let i = gathers (g ++ x ∷ []) xs a.1 (omega (arith, length_push g x)) in
@@ -143,11 +143,11 @@ plain-digit : (v : ℕ) → Plain (digit_of v)
 unfolding digit_of
 plain-digit v = (λ e. grind (arith, nat_tests), λ e. grind (arith, nat_tests))
 
-plain-in_digits : (m : List ℕ) → All Plain (in_digits m)
+plain-in_digits : (m : List ℕ) → AllByRecursion Plain (in_digits m)
 plain-in_digits [] = tt
 plain-in_digits (b ∷ m) = (plain-digit (b / 16), (plain-digit (b % 16), plain-in_digits m))
 
-plain-append : (xs ys : List ℕ) → All Plain xs → All Plain ys → All Plain (xs ++ ys)
+plain-append : (xs ys : List ℕ) → AllByRecursion Plain xs → AllByRecursion Plain ys → AllByRecursion Plain (xs ++ ys)
 plain-append [] ys a b = b
 plain-append (x ∷ xs) ys a b = (a.0, plain-append xs ys a.1 b)
 
@@ -158,7 +158,7 @@ inner-is : (n a : ℕ) (m : List ℕ) → encode n a m ≡ 1 ∷ (inner n a m ++
 unfolding encode body inner
 inner-is n a m = sym (append_assoc (1 ∷ (in_digits (n ∷ a ∷ []) ++ (2 ∷ in_digits m))) (in_digits (bytes_of (check_word (body n a m)))) (3 ∷ []))
 
-plain-inner : (n a : ℕ) (m : List ℕ) → All Plain (inner n a m)
+plain-inner : (n a : ℕ) (m : List ℕ) → AllByRecursion Plain (inner n a m)
 unfolding inner
 plain-inner n a m =
     plain-append (in_digits (n ∷ a ∷ []) ++ (2 ∷ in_digits m)) (in_digits (bytes_of (check_word (body n a m))))

@@ -1,7 +1,7 @@
 -- Laws of the digits: what is spelled is read, and what is read is spelled so.
 use Rattle.std.proofs.Common.{◌≡◌, ℕ, ◌+◌, ◌*◌, ◌/◌, ◌%◌, ◌<◌, ◌≤◌, List, [], ◌∷◌, ◌++◌, length, get_or, take, drop, set, Some, None, Option, sym, refl, ap, ◌∙◌, subst, arith}
 use Rattle.std.proofs.lemmas.Bool.Decides.{nat_tests}
-use Rattle.std.specs.List.{AllByRecursion as All}
+use Rattle.std.specs.List.{AllByRecursion}
 use Rattle.std.proofs.lemmas.List.{append_assoc, append-nil, drop_more, drop_all, take_all, take_more_set}
 use Rattle.wire.specs.Digits.{digit_of, digit_value, joined, byte_value, in_digits, before, from_digits}
 
@@ -50,7 +50,7 @@ value-pair-by h l b (Some x) (Some y) e f g =
 pub value-pair : (h l b : ℕ) → byte_value h l ≡ Some b → Pair h l b
 value-pair h l b g = value-pair-by h l b (digit_value h) (digit_value l) refl refl g
 
-pub from_digits-in_digits : (m : List ℕ) → All (λ b. b < 256) m → from_digits (in_digits m) ≡ Some m
+pub from_digits-in_digits : (m : List ℕ) → AllByRecursion (λ b. b < 256) m → from_digits (in_digits m) ≡ Some m
 from_digits-in_digits [] a = refl
 from_digits-in_digits (b ∷ m) a =
     let p = pair-value b a.0 in
@@ -60,7 +60,7 @@ from_digits-in_digits (b ∷ m) a =
 
 pub record Spelling (ds m : List ℕ) : Type 0 where
   pub digits : in_digits m ≡ ds
-  pub small : All (λ b. b < 256) m
+  pub small : AllByRecursion (λ b. b < 256) m
 
 in_digits-from_digits-by : (h l : ℕ) (ds m : List ℕ) (o : Option ℕ) (p : Option (List ℕ)) → byte_value h l ≡ o → from_digits ds ≡ p → ((n : List ℕ) → from_digits ds ≡ Some n → Spelling ds n)
     → before o p ≡ Some m → Spelling (h ∷ (l ∷ ds)) m
@@ -70,7 +70,7 @@ in_digits-from_digits-by h l ds m (Some x) (Some y) e f g i =
     let k : (x ∷ y) ≡ m = cc in
     let r = value-pair h l x e in
     let s = g y f in
-    let a : All (λ b. b < 256) (x ∷ y) = (r.small, s.small) in
+    let a : AllByRecursion (λ b. b < 256) (x ∷ y) = (r.small, s.small) in
     let d : in_digits (x ∷ y) ≡ h ∷ (l ∷ ds) = cc in
     subst (λ (n : List ℕ). Spelling (h ∷ (l ∷ ds)) n) k (record { digits = d; small = a })
 

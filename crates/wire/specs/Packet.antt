@@ -1,6 +1,6 @@
 -- The packet: SOH, a number, an address, STX, a message, the check word of all that, and ETX.
 use Rattle.std.specs.Prelude.{◌≡◌, ℕ, ◌+◌, ◌-◌, ◌*◌, ◌/◌, ◌%◌, ◌<◌, ◌≤◌, Bool, cond, ◌&&◌, List, [], ◌∷◌, ◌++◌, length, take, drop, Some, None, Option, ◌==◌, nat_le, slice_index}
-use Rattle.std.specs.List.{between, AllByRecursion as All}
+use Rattle.std.specs.List.{between, AllByRecursion}
 use Rattle.wire.specs.CheckWord.{check_word}
 use Rattle.wire.specs.Digits.{digit_of, byte_value, in_digits, bytes_of, from_digits}
 use Rattle.wire.specs.declared.packet.Packet.{Packet}
@@ -29,7 +29,7 @@ said p = content p.number p.address (take p.len p.bytes)
 
 -- what a packet can say: bytes, and a message of 1 to 768 of them
 abbrev pub Fitting : Content → Type 0
-Fitting p = (p.number < 256) × (p.address < 256) × (1 ≤ length p.message) × (length p.message ≤ 768) × All (λ b. b < 256) p.message
+Fitting p = (p.number < 256) × (p.address < 256) × (1 ≤ length p.message) × (length p.message ≤ 768) × AllByRecursion (λ b. b < 256) p.message
 
 -- SOH to the last digit of the message: what the check word is over
 unfoldable pub body : ℕ → ℕ → List ℕ → List ℕ
