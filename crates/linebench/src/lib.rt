@@ -1,4 +1,4 @@
-// The line for callers in other languages: what the benchmark measures, and what the tests hold to known values.
+// What the benchmark measures of the line, and what the tests hold to known values. `linebench_c` exports it.
 #![tactic(auto)]
 
 ghost use Rattle.std.specs.Prelude.{◌≡◌, length};
@@ -11,8 +11,7 @@ use wire::Reader;
 mod tests;
 
 // How many whole packets a line brings to a reader at rest.
-#[unsafe(no_mangle)]
-pub extern "C" fn packets_taken(line: &[u8]) -> usize
+pub fn packets_taken(line: &[u8]) -> usize
     ensures { result ≡ length (takes rest line.now) }
 {
     let mut reader = Reader::new();
@@ -26,8 +25,7 @@ pub extern "C" fn packets_taken(line: &[u8]) -> usize
 }
 
 // The check word of a stretch of bytes.
-#[unsafe(no_mangle)]
-pub extern "C" fn word_of(bytes: &[u8]) -> u16
+pub fn word_of(bytes: &[u8]) -> u16
     ensures { result ≡ check_word bytes.now }
 {
     wire::check_word(bytes)
