@@ -5,35 +5,25 @@ use lib.Ieee.{Float, nan, inf, fin, up, down, mul, round, units, odd, le, binary
 use lib.Ieee.Fits.{and_l, and_r, down_pos, round_is}
 use lib.Ieee.Exact.{HasValue, odd_sign}
 use lib.Ieee.Order.{round_mono, kept, drop}
-use lib.Ieee.Positive.{positive, above, cross→le, le_trans_positive, above_of_le, between}
+use lib.Ieee.Positive.{positive, above, cross→le, above_of_le}
 use Rattle.analog.specs.Codes.{count, volt_mark, tenfold, volts_code, NearVolts}
 use Rattle.analog.proofs.Counts.{is-counted, is-reached}
-use Rattle.analog.proofs.Marks.{at}
-use Rattle.std.proofs.lemmas.Bool.{cases_lt, false≢true}
+use Rattle.std.proofs.lemmas.Bool.{cases_lt, false≢true, agree_below_at}
+use Rattle.std.proofs.lemmas.Float.{T_from_true, le_trans}
 
 -- ---- the order of the marks
-pub mark-positive : (k : ℕ) → T (positive (volt_mark k))
+mark-positive : (k : ℕ) → T (positive (volt_mark k))
 mark-positive k = lt→ltb 0 (2 * k + 1) (omega arith)
 
-pub infinite : (y : Float) → T (positive y) → T (le y (inf false))
+infinite : (y : Float) → T (positive y) → T (le y (inf false))
 unfolding le
 infinite nan u = absurd u
 infinite (inf s) u = absurd u
 infinite (fin s m e) u = tt
 
-pub le_up : (a b x : Float) → T (positive a) → T (positive b) → T (le a b) → T (le b x) → T (le a x)
-le_up a b x p q h k = go x (above_of_le b x q k) k
-  where
-    go : (z : Float) → T (above z) → T (le b z) → T (le a z)
-    go nan u v = absurd u
-    go (inf true) u v = absurd u
-    go (inf false) u v = infinite a p
-    go (fin true m e) u v = absurd u
-    go (fin false m e) u v = le_trans_positive a b (fin false m e) p q u h v
-
 -- a mark below one that is reached is reached
 lower : (k n : ℕ) (x : Float) → k ≤ n → T (le (volt_mark n) x) → T (le (volt_mark k) x)
-lower k n x h t = le_up (volt_mark k) (volt_mark n) x (mark-positive k) (mark-positive n) (cross→le (volt_mark k) (volt_mark n) (mark-positive k) (mark-positive n) (omega arith)) t
+lower k n x h t = le_trans (volt_mark k) (volt_mark n) x (cross→le (volt_mark k) (volt_mark n) (mark-positive k) (mark-positive n) (omega arith)) t
 
 -- ---- a mark that is reached is counted, and what is counted is reached
 pub counted : (n : ℕ) (x : Float) (k : ℕ) → k < n → T (le (volt_mark k) x) → k < count volt_mark n x
@@ -71,11 +61,11 @@ high-edge k = round binary32 false (10000 * k + 15001) 10000
 
 edge_test : ℕ → Bool
 unfolding low-edge high-edge
-edge_test k = (positive (low-edge k) && not (le (volt_mark k) (low-edge k))) && (positive (high-edge k) && le (volt_mark (suc k)) (high-edge k))
+edge_test k = not (le (volt_mark k) (low-edge k)) && le (volt_mark (suc k)) (high-edge k)
 
 edges : (k : ℕ) → k < 254 → T (edge_test k)
 unfolding edge_test low-edge high-edge round le
-edges k h = at edge_test 254 tt k h
+edges k h = T_from_true (edge_test k) (agree_below_at edge_test (λ _. true) 254 k refl h)
 
 not-under : (k n d : ℕ) → k < 254 → 0 < d → T (le (volt_mark k) (round binary32 false n d)) → (10000 * k + 4999) * d ≤ n * 10000
 unfolding edge_test low-edge
@@ -85,13 +75,9 @@ not-under k n d h D t =
       | inl g ↦
           let x = round binary32 false n d in
           let y = low-edge k in
-          let all-four = edges k h in
-          let p = and_l (positive y && not (le (volt_mark k) y)) (positive (high-edge k) && le (volt_mark (suc k)) (high-edge k)) all-four in
-          let Y = and_l (positive y) (not (le (volt_mark k) y)) p in
-          let no-reach = and_r (positive y) (not (le (volt_mark k) y)) p in
+          let no-reach = and_l (not (le (volt_mark k) y)) (le (volt_mark (suc k)) (high-edge k)) (edges k h) in
           let u = round_mono binary32 n d (10000 * k + 4999) 10000 D (lit< tt) (le_of_lt g) in
-          let X = between (volt_mark k) x y (mark-positive k) Y t u in
-          absurd (T_not (le (volt_mark k) y) no-reach (le_trans_positive (volt_mark k) x y (mark-positive k) X Y t u))
+          absurd (T_not (le (volt_mark k) y) no-reach (le_trans (volt_mark k) x y t u))
     ]
 
 not-over : (k n d : ℕ) → k < 254 → 0 < d → (T (le (volt_mark (suc k)) (round binary32 false n d)) → ⊥) → n * 10000 ≤ (10000 * k + 15001) * d
@@ -102,12 +88,9 @@ not-over k n d h D t =
       | inl g ↦
           let x = round binary32 false n d in
           let y = high-edge k in
-          let all-four = edges k h in
-          let p = and_r (positive (low-edge k) && not (le (volt_mark k) (low-edge k))) (positive y && le (volt_mark (suc k)) y) all-four in
-          let Y = and_l (positive y) (le (volt_mark (suc k)) y) p in
-          let r = and_r (positive y) (le (volt_mark (suc k)) y) p in
+          let r = and_r (not (le (volt_mark k) (low-edge k))) (le (volt_mark (suc k)) y) (edges k h) in
           let u = round_mono binary32 (10000 * k + 15001) 10000 n d (lit< tt) D (le_of_lt g) in
-          absurd (t (le_up (volt_mark (suc k)) y x (mark-positive (suc k)) Y r u))
+          absurd (t (le_trans (volt_mark (suc k)) y x r u))
     ]
 
 -- ---- together

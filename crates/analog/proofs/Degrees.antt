@@ -1,7 +1,9 @@
 -- The byte of a temperature is within half a degree. Assumes nothing.
-use Rattle.std.proofs.Common.{◌≡◌, ℕ, suc, ◌+◌, ◌-◌, ◌*◌, ◌<◌, ◌≤◌, Bool, true, false, cond, ◌&&◌, ◌||◌, T, eqb, ltb, leb, ℤ, negsuc, sym, refl, ap, ◌∙◌, subst, inl, inr, mul-le-mul_right, mul_assoc, suc-mul, add-mul, lt_of_not-le, mul-one, arith}
+use Rattle.std.proofs.Common.{◌≡◌, ℕ, suc, ◌+◌, ◌-◌, ◌*◌, ◌<◌, ◌≤◌, Bool, true, false, cond, ◌&&◌, ◌||◌, T, eqb, ltb, leb, ℤ, negsuc, sym, refl, ap, ◌∙◌, inl, inr, mul-le-mul_right, mul_assoc, suc-mul, add-mul, lt_of_not-le, mul-one, arith}
 use lib.Ieee.{Float, nan, inf, fin, up, down, le}
 use lib.Ieee.Fits.{down_pos}
+use lib.Ieee.Bits.{is_true}
+use Rattle.std.proofs.lemmas.Float.{T_from_true}
 use Rattle.std.proofs.lemmas.Bool.{cases_lt, cond-true, cond-false, lt-ltb, le-ltb, leb-true, le-leb, false≢true}
 use Rattle.std.proofs.lemmas.Bool.Decides.{nat_tests}
 use Rattle.analog.specs.Codes.{count, degree_mark, NearDegrees}
@@ -14,13 +16,6 @@ Over k (inf true) = ⊥
 Over k (inf false) = Unit {0}
 Over k (fin false m e) = 2 * (k * down e) ≤ 2 * (m * up e) + 39 * down e
 Over k (fin true m e) = 2 * (k * down e) + 2 * (m * up e) ≤ 39 * down e
-
-is_true : (b : Bool) → T b → b ≡ true
-is_true true t = refl
-is_true false t = absurd t
-
-is_T : (b : Bool) → b ≡ true → T b
-is_T b e = subst (λ (x : Bool). T x) (sym e) tt
 
 -- the four cases of the signs, as `le` has them
 down-down : (a b : ℕ) → (ltb b a || (eqb a b && true)) ≡ leb b a
@@ -128,7 +123,7 @@ over k x t = (tells-over k x).0 (is_true (le (degree_mark k) x) t)
 
 not-over : (k : ℕ) (x : Float) → Over k x → T (le (degree_mark k) x)
 unfolding Tells
-not-over k x o = is_T (le (degree_mark k) x) ((tells-over k x).1 o)
+not-over k x o = T_from_true (le (degree_mark k) x) ((tells-over k x).1 o)
 
 -- what is over a mark is over a lower one
 lower : (j k : ℕ) (x : Float) → j ≤ k → Over k x → Over j x

@@ -1,5 +1,6 @@
 -- The byte that stands for a reading, and how near it is to what was read. Assumes nothing.
-use Rattle.std.specs.Prelude.{◌≡◌, ℕ, zero, suc, ◌+◌, ◌-◌, ◌*◌, ◌≤◌, true, false, cond, pos, negsuc, is_nan, nat_lt, Float}
+use Rattle.std.specs.Prelude.{◌≡◌, ℕ, ◌+◌, ◌-◌, ◌*◌, ◌≤◌, true, false, cond, pos, negsuc, is_nan, nat_lt, count_by, map, Float}
+use Rattle.std.specs.List.{range_with_len}
 use Rattle.std.specs.Float.{nan, inf, fin, binary32}
 use Rattle.std.specs.Float.Ieee.{add, mul, of_int, le, up, down}
 use Rattle.analog.specs.declared.reading.Reading.{Reading}
@@ -19,8 +20,7 @@ mark_from first k = add binary32 first (of_int binary32 (pos k))
 
 -- how many of the first n marks are not above x
 unfoldable pub count : (ℕ → Float) → ℕ → Float → ℕ
-count mark zero x = 0
-count mark (suc n) x = count mark n x + cond (le (mark n) x) 1 0
+count mark n x = count_by (λ m. le m x) (map mark (range_with_len 0 n))
 
 -- ten times v, as one product of 32-bit floating point
 abbrev pub tenfold : Float → Float

@@ -2,7 +2,7 @@
 ghost use Rattle.std.specs.Prelude.{◌≡◌, ◌≤◌, [], ◌∷◌};
 ghost use Rattle.analog.specs.Codes.{count, mark_from, code_of, volts_code, celsius_code, NearVolts, NearDegrees, Faithful, WorkedVolts};
 
-#[derive(Clone, Copy, PartialEq)]
+#[derive(Clone, Copy, Debug, PartialEq)]
 pub enum Reading {
     Volts(f32),
     Celsius(f32),
@@ -13,13 +13,10 @@ pub enum Reading {
 fn marks_reached(first: f32, marks: u8, x: f32) -> u8
     ensures { result ≡ count (mark_from first) marks x }
 {
-    let mut reached = 0;
-    for k in 0..marks {
-        if first + (k as f32) <= x {
-            reached += 1;
-        }
-    }
-    reached
+    (0..marks)
+        .map(|k| first + f32::from(k))
+        .filter(|&mark| mark <= x)
+        .count() as u8
 }
 
 // Tenths of a volt, by the marks 0.5 to 254.5.

@@ -1,26 +1,29 @@
 // The slots of a site's readings, their states, and what each holds.
-ghost use Rattle.std.specs.Prelude.{◌≡◌, [], ◌∷◌};
+ghost use Rattle.std.specs.Prelude.{◌≡◌, [], ◌∷◌, ok_or};
 ghost use Rattle.analog.specs.Codes.{code_of};
 ghost use Rattle.analog.specs.Slots.{slot_of, slot_takes, state_of, state_byte, refusal_number, held, placed, setting, set_to, at_first, entry_bytes, report_bytes};
+ghost use Rattle.analog.specs.declared.slots.Refusal.TheVariants.{NoSlot, NoState};
 
 use crate::reading::Reading;
+use std::error::Error;
+use std::fmt;
 
-#[derive(Clone, Copy, PartialEq)]
+#[derive(Clone, Copy, Debug, PartialEq, Eq)]
 pub enum Slot {
     Mains,
     Battery,
     Temperature,
 }
 
-#[derive(Clone, Copy, PartialEq)]
+#[derive(Clone, Copy, Debug, PartialEq, Eq)]
 pub enum State {
-    Normal,
-    Warning,
-    Alarm,
+    Normal = 0,
+    Warning = 0x40,
+    Alarm = 0x80,
 }
 
 // Why a reading is not kept.
-#[derive(Clone, Copy, PartialEq)]
+#[derive(Clone, Copy, Debug, PartialEq, Eq)]
 pub enum Refusal {
     NoSlot,
     OtherKind,
@@ -28,84 +31,100 @@ pub enum Refusal {
 }
 
 // The newest reading of a slot.
-#[derive(Clone, Copy, PartialEq)]
+#[derive(Clone, Copy, Debug, PartialEq)]
 pub struct Entry {
     pub reading: Reading,
     pub state: State,
 }
 
-#[derive(Clone, Copy, PartialEq)]
+#[derive(Clone, Copy, Debug, PartialEq)]
 pub struct Readings {
     mains: Entry,
     battery: Entry,
     temperature: Entry,
 }
 
-impl Slot {
-    pub fn from_number(number: u8) -> Option<Slot>
-        ensures { result ≡ slot_of number }
-    {
+impl TryFrom<u8> for Slot {
+    type Error = Refusal;
+
+    ghost try_from_gives = { λ number result. result ≡ ok_or (slot_of number) NoSlot };
+
+    fn try_from(number: u8) -> Result<Slot, Refusal> {
         match number {
-            1 => Some(Slot::Mains),
-            2 => Some(Slot::Battery),
-            3 => Some(Slot::Temperature),
-            _ => None,
+            1 => Ok(Slot::Mains),
+            2 => Ok(Slot::Battery),
+            3 => Ok(Slot::Temperature),
+            _ => Err(Refusal::NoSlot),
         }
     }
+}
 
+impl Slot {
     // Mains and battery take volts, temperature takes degrees, and each takes absent.
     pub fn takes(self, reading: Reading) -> bool
         ensures { result ≡ slot_takes self reading }
     {
-        match (self, reading) {
-            (Slot::Mains | Slot::Battery, Reading::Volts(_)) => true,
-            (Slot::Temperature, Reading::Celsius(_)) => true,
-            (_, Reading::Absent) => true,
-            _ => false,
-        }
+        matches!(
+            (self, reading),
+            (Slot::Mains | Slot::Battery, Reading::Volts(_))
+                | (Slot::Temperature, Reading::Celsius(_))
+                | (_, Reading::Absent)
+        )
     }
 }
 
-impl State {
-    pub fn from_byte(byte: u8) -> Option<State>
-        ensures { result ≡ state_of byte }
-    {
+impl TryFrom<u8> for State {
+    type Error = Refusal;
+
+    ghost try_from_gives = { λ byte result. result ≡ ok_or (state_of byte) NoState };
+
+    fn try_from(byte: u8) -> Result<State, Refusal> {
         match byte {
-            0 => Some(State::Normal),
-            0x40 => Some(State::Warning),
-            0x80 => Some(State::Alarm),
-            _ => None,
-        }
-    }
-
-    pub fn byte(self) -> u8
-        ensures { result ≡ state_byte self }
-    {
-        match self {
-            State::Normal => 0,
-            State::Warning => 0x40,
-            State::Alarm => 0x80,
+            0 => Ok(State::Normal),
+            0x40 => Ok(State::Warning),
+            0x80 => Ok(State::Alarm),
+            _ => Err(Refusal::NoState),
         }
     }
 }
 
-impl Refusal {
+impl From<State> for u8 {
+    ghost from_gives = { λ state byte. byte ≡ state_byte state };
+
+    fn from(state: State) -> u8 {
+        state as u8
+    }
+}
+
+impl From<Refusal> for u8 {
+    ghost from_gives = { λ refusal number. number ≡ refusal_number refusal };
+
     // The number of the rejection.
-    pub fn number(self) -> u8
-        ensures { result ≡ refusal_number self }
-    {
-        match self {
+    fn from(refusal: Refusal) -> u8 {
+        match refusal {
             Refusal::NoSlot | Refusal::OtherKind | Refusal::NoState => 0x54,
         }
     }
 }
+
+impl fmt::Display for Refusal {
+    fn fmt<W: fmt::Write>(&self, f: &mut fmt::Formatter<W>) -> fmt::Result {
+        f.write_str(match self {
+            Refusal::NoSlot => "no slot",
+            Refusal::OtherKind => "other kind",
+            Refusal::NoState => "no state",
+        })
+    }
+}
+
+impl Error for Refusal {}
 
 impl Entry {
     // The state and the code, as a reply has them.
     pub fn bytes(self) -> [u8; 2]
         ensures { result ≡ entry_bytes self }
     {
-        [self.state.byte(), self.reading.code()]
+        [u8::from(self.state), self.reading.code()]
     }
 }
 
@@ -150,15 +169,11 @@ impl Readings {
         ensures answer { result ≡ setting (slot_of slot) reading (state_of state) }
         ensures state { self.new ≡ set_to (slot_of slot) reading (state_of state) self.old }
     {
-        let Some(slot) = Slot::from_number(slot) else {
-            return Err(Refusal::NoSlot);
-        };
+        let slot = Slot::try_from(slot)?;
         if !slot.takes(reading) {
             return Err(Refusal::OtherKind);
         }
-        let Some(state) = State::from_byte(state) else {
-            return Err(Refusal::NoState);
-        };
+        let state = State::try_from(state)?;
         self.place(slot, Entry { reading, state });
         Ok(())
     }

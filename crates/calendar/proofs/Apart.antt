@@ -7,23 +7,22 @@ use Rattle.calendar.specs.Moments.{day_number, moment, dated, timed}
 use Rattle.calendar.specs.declared.date_time.DateTime.{DateTime}
 use Rattle.calendar.proofs.Days.{next-month, next-year, to-december}
 
+-- what falls at no step never falls
+mono : (f : ℕ → ℕ) → ((k : ℕ) → f k ≤ f (suc k)) → (n k : ℕ) → n ≤ k → f n ≤ f k
+mono f up n zero h = let e : n ≡ 0 = omega arith in rw e (le_refl (f 0))
+mono f up n (suc k) h =
+    elim (cases_eq n (suc k)) [
+      | inl e ↦ rw e (le_refl (f (suc k)))
+      | inr d ↦ omega (arith, up k, mono f up n k (omega arith))
+    ]
+
 pub years-mono : (n k : ℕ) → n ≤ k → years_days n ≤ years_days k
 unfolding years_days
-years-mono n zero h = let e : n ≡ 0 = omega arith in subst (λ (z : ℕ). years_days z ≤ years_days 0) (sym e) (le_refl (years_days 0))
-years-mono n (suc k) h =
-    elim (cases_eq n (suc k)) [
-      | inl e ↦ subst (λ (z : ℕ). years_days z ≤ years_days (suc k)) (sym e) (le_refl (years_days (suc k)))
-      | inr d ↦ let i = years-mono n k (omega arith) in omega arith
-    ]
+years-mono n k h = mono years_days (λ j. omega arith) n k h
 
 months-mono : (y n k : ℕ) → n ≤ k → months_days y n ≤ months_days y k
 unfolding months_days
-months-mono y n zero h = let e : n ≡ 0 = omega arith in subst (λ (z : ℕ). months_days y z ≤ months_days y 0) (sym e) (le_refl (months_days y 0))
-months-mono y n (suc k) h =
-    elim (cases_eq n (suc k)) [
-      | inl e ↦ subst (λ (z : ℕ). months_days y z ≤ months_days y (suc k)) (sym e) (le_refl (months_days y (suc k)))
-      | inr d ↦ let i = months-mono y n k (omega arith) in omega arith
-    ]
+months-mono y n k h = mono (months_days y) (λ j. omega arith) n k h
 
 -- a date's place in its year
 pub within : (y m d : ℕ) → Date y m d → months_days y (m - 1) + d ≤ 365 + cond (leap y) 1 0

@@ -14,9 +14,6 @@ number-le t h =
     let k = years-mono (t.year + 1 - 1) 9999 (omega arith) in
     omega (arith, years-closed 9999)
 
-last-number : years_days 9998 + (months_days 9999 11 + 31) ≡ 3652059
-last-number = omega (arith, years-closed 9998, to-december 9999)
-
 -- the arithmetic over numbers alone, which is all that omega should see
 first : (n h m s : ℕ) → h < 24 → m < 60 → s < 59 → n ≤ 3652059
     → ((n * 24 + h) * 60 + m) * 60 + (s + 1) ≡ min (((n * 24 + h) * 60 + m) * 60 + s + 1) last_moment

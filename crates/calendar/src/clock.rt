@@ -6,7 +6,7 @@ use crate::date_time::DateTime;
 
 pub mod running;
 
-#[derive(Clone, Copy, PartialEq)]
+#[derive(Clone, Copy, Debug, PartialEq, Eq)]
 pub struct Clock {
     shown: DateTime,
     ghost date: { dated shown ≡ true },

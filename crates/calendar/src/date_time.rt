@@ -3,8 +3,10 @@ ghost use Rattle.std.specs.Prelude.{◌≡◌};
 ghost use Rattle.calendar.specs.Moments.{dated, timed, judged, unfit_number, midnight, next_day, next_second};
 
 use crate::dates::month_days;
+use std::error::Error;
+use std::fmt;
 
-#[derive(Clone, Copy, PartialEq)]
+#[derive(Clone, Copy, Debug, PartialEq, Eq)]
 pub struct DateTime {
     pub day: u8,
     pub month: u8,
@@ -15,34 +17,42 @@ pub struct DateTime {
 }
 
 // Why a clock cannot show a date and time: no such date, or no such time of day.
-#[derive(Clone, Copy, PartialEq)]
+#[derive(Clone, Copy, Debug, PartialEq, Eq)]
 pub enum Unfit {
     Date,
     Time,
 }
 
-impl Unfit {
+impl From<Unfit> for u8 {
+    ghost from_gives = { λ refusal number. number ≡ unfit_number refusal };
+
     // The number of the rejection.
-    pub fn number(self) -> u8
-        ensures { result ≡ unfit_number self }
-    {
-        match self {
+    fn from(refusal: Unfit) -> u8 {
+        match refusal {
             Unfit::Date | Unfit::Time => 0x44,
         }
     }
 }
+
+impl fmt::Display for Unfit {
+    fn fmt<W: fmt::Write>(&self, f: &mut fmt::Formatter<W>) -> fmt::Result {
+        f.write_str(match self {
+            Unfit::Date => "no date",
+            Unfit::Time => "no time",
+        })
+    }
+}
+
+impl Error for Unfit {}
 
 impl DateTime {
     // Whether the calendar has the date, in the years 1 to 9999.
     fn has_date(self) -> bool
         ensures { result ≡ dated self }
     {
-        1 <= self.year
-            && self.year <= 9999
-            && 1 <= self.month
-            && self.month <= 12
-            && 1 <= self.day
-            && self.day <= month_days(self.year, self.month)
+        matches!(self.year, 1..=9999)
+            && matches!(self.month, 1..=12)
+            && (1..=month_days(self.year, self.month)).contains(&self.day)
     }
 
     // Whether a day has the time.

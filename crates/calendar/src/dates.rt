@@ -24,6 +24,7 @@ pub(crate) fn days_before_month(year: u16, month: u8) -> u32
     ensures value { result ≡ months_days year (month - 1) }
     ensures bound { result ≤ 341 }
 {
+    // A `for`, since a chain's `sum` would need a proof by hand that it fits.
     let mut days = 0;
     for m in 1..month {
         days += u32::from(month_days(year, m));

@@ -2,7 +2,9 @@
 ghost use Rattle.std.specs.Prelude.{◌≡◌, ◌%◌};
 ghost use Rattle.calendar.specs.Weekdays.{weekday_number};
 
-#[derive(Clone, Copy, PartialEq)]
+use std::fmt;
+
+#[derive(Clone, Copy, Debug, PartialEq, Eq)]
 pub enum Weekday {
     Sunday,
     Monday,
@@ -13,26 +15,44 @@ pub enum Weekday {
     Saturday,
 }
 
+const WEEK: [Weekday; 7] = [
+    Weekday::Sunday,
+    Weekday::Monday,
+    Weekday::Tuesday,
+    Weekday::Wednesday,
+    Weekday::Thursday,
+    Weekday::Friday,
+    Weekday::Saturday,
+];
+
 impl Weekday {
     // The weekday of the day with this number, where day 0 is a Sunday.
     pub(crate) fn of_day(days: u32) -> Weekday
         ensures { weekday_number result ≡ days % 7 }
     {
-        match days % 7 {
-            0 => Weekday::Sunday,
-            1 => Weekday::Monday,
-            2 => Weekday::Tuesday,
-            3 => Weekday::Wednesday,
-            4 => Weekday::Thursday,
-            5 => Weekday::Friday,
-            _ => Weekday::Saturday,
-        }
+        WEEK[(days % 7) as usize]
     }
+}
+
+impl From<Weekday> for u8 {
+    ghost from_gives = { λ weekday number. number ≡ weekday_number weekday };
 
     // 0 for Sunday to 6 for Saturday.
-    pub fn number(self) -> u8
-        ensures { result ≡ weekday_number self }
-    {
-        self as u8
+    fn from(weekday: Weekday) -> u8 {
+        weekday as u8
+    }
+}
+
+impl fmt::Display for Weekday {
+    fn fmt<W: fmt::Write>(&self, f: &mut fmt::Formatter<W>) -> fmt::Result {
+        f.write_str(match self {
+            Weekday::Sunday => "Sunday",
+            Weekday::Monday => "Monday",
+            Weekday::Tuesday => "Tuesday",
+            Weekday::Wednesday => "Wednesday",
+            Weekday::Thursday => "Thursday",
+            Weekday::Friday => "Friday",
+            Weekday::Saturday => "Saturday",
+        })
     }
 }

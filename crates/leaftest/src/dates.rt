@@ -1,5 +1,5 @@
 // Weekdays, the second after a day's last, and dates and times that do not exist.
-use calendar::{Clock, DateTime, Unfit, Weekday};
+use calendar::{Clock, DateTime};
 use std::io;
 
 // Day, month and year.
@@ -60,18 +60,6 @@ const UNFIT: [(u8, u8, u16, u8, u8, u8); 16] = [
     (29, 2, 2000, 255, 255, 255),
 ];
 
-fn name_of(weekday: Weekday) -> &'static str {
-    match weekday {
-        Weekday::Sunday => "Sunday",
-        Weekday::Monday => "Monday",
-        Weekday::Tuesday => "Tuesday",
-        Weekday::Wednesday => "Wednesday",
-        Weekday::Thursday => "Thursday",
-        Weekday::Friday => "Friday",
-        Weekday::Saturday => "Saturday",
-    }
-}
-
 fn print_clock(rt: &impl Print, clock: &Clock) -> io::Result<()> {
     let DateTime {
         day,
@@ -81,7 +69,7 @@ fn print_clock(rt: &impl Print, clock: &Clock) -> io::Result<()> {
         minute,
         second,
     } = clock.date_time();
-    let weekday = name_of(clock.weekday());
+    let weekday = clock.weekday();
     let of_week = clock.minute_of_week();
     println!(rt; "{day}.{month}.{year} {hour}:{minute}:{second} {weekday} {of_week}")
 }
@@ -120,13 +108,12 @@ pub(crate) fn print_refusals(rt: &impl Print) -> io::Result<()> {
             minute,
             second,
         };
-        let answer = match clock.set(given) {
-            Ok(()) => "taken",
-            Err(Unfit::Date) => "no date",
-            Err(Unfit::Time) => "no time",
-        };
-        let start = clock.date_time() == Clock::new().date_time();
-        println!(rt; "{answer} {start}")?;
+        let answer = clock.set(given);
+        let start = clock == Clock::new();
+        match answer {
+            Ok(()) => println!(rt; "taken {start}")?,
+            Err(unfit) => println!(rt; "{unfit} {start}")?,
+        }
     }
     Ok(())
 }

@@ -1,5 +1,5 @@
 // Codes at and beside the marks, and which readings a slot takes.
-use analog::{Reading, Readings, Refusal};
+use analog::{Reading, Readings};
 use std::io;
 
 const VOLTS: [f32; 30] = [
@@ -82,14 +82,12 @@ pub(crate) fn print_degrees(rt: &impl Print) -> io::Result<()> {
 
 fn print_reading(rt: &impl Print, slot: u8, reading: Reading, state: u8) -> io::Result<()> {
     let mut readings = Readings::new();
-    let answer = match readings.set(slot, reading, state) {
-        Ok(()) => "kept",
-        Err(Refusal::NoSlot) => "no slot",
-        Err(Refusal::OtherKind) => "other kind",
-        Err(Refusal::NoState) => "no state",
-    };
+    let answer = readings.set(slot, reading, state);
     let bytes = readings.bytes();
-    println!(rt; "{slot} {state} {answer} {bytes:?}")
+    match answer {
+        Ok(()) => println!(rt; "{slot} {state} kept {bytes:?}"),
+        Err(refusal) => println!(rt; "{slot} {state} {refusal} {bytes:?}"),
+    }
 }
 
 // Every slot from 0 to 4 with every kind and each state.

@@ -11,11 +11,13 @@ use wire::Reader;
 mod tests;
 
 // How many whole packets a line brings to a reader at rest.
+#[tactic(auto, using(std::proofs::lemmas::List::Sums::fold_more, wire::proofs::Noise::count_more))]
 pub fn packets_taken(line: &[u8]) -> usize
     ensures { result ≡ length (takes rest line.now) }
 {
     let mut reader = Reader::new();
     let mut count = 0;
+    // no filter and count: its closure would change the reader, and of a closure that changes what it holds no count is proved
     for byte in line {
         if reader.feed(*byte).is_some() {
             count += 1;

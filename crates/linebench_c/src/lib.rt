@@ -1,4 +1,5 @@
 // The line for callers in C: what `linebench` promises, under the same names.
+// The same two functions once more, since only a static library exports names to C, and no crate is both that and a library.
 #![tactic(auto)]
 
 ghost use Rattle.std.specs.Prelude.{◌≡◌, length};

@@ -1,27 +1,41 @@
 -- The signs of a single rack: their numbers, their faces and what they take.
-use Rattle.std.specs.Prelude.{ℕ, ◌+◌, ◌-◌, Bool, false, cond, List, map, Some, None, Ok, Err, Option, Result, nat_le, slice_index_or}
+use Rattle.std.specs.Prelude.{ℕ, ◌+◌, ◌-◌, Bool, false, cond, List, length, Some, None, Ok, Err, Option, Result, nat_le, slice_get}
 use Rattle.rack.specs.declared.look.Shape.{Shape}
-use Rattle.rack.specs.declared.bank.Bank.{Bank}
+use Rattle.rack.specs.declared.sign.Sign.{Sign}
+use Rattle.rack.specs.declared.sign.Shown.{Shown}
+use Rattle.rack.specs.declared.bank.SignRack.{SignRack}
 use Rattle.rack.specs.declared.refusal.Refusal.{Refusal}
 use Rattle.rack.specs.declared.refusal.Refusal.TheVariants.{ThirteenthSign, Unfit}
-use Rattle.rack.specs.Face.{Face, dark, has}
-use Rattle.rack.specs.Panel.{panel_face}
+use Rattle.rack.specs.Face.{Face, dark, lit, has}
 
--- The face of sign s among n signs; sign s stands at place s - 1.
-abbrev pub face_in : ℕ → List Face → ℕ → Face
-face_in n fs s = cond (has n s) (slice_index_or fs (s - 1) dark) dark
+-- Sign s of a list, whose first sign has the number 1.
+abbrev pub numbered : {X : Type 0} → List X → ℕ → Option X
+numbered xs s = cond (has (length xs) s) (slice_get xs (s - 1)) None
 
-abbrev pub bank_face : Bank → ℕ → Face
-bank_face b s = face_in b.count (map panel_face b.panels) s
+-- what a sign shows; a lacking sign shows nothing
+abbrev pub shown_by : {K : Type 0} → Option (Sign K) → Option Shown
+shown_by None = None
+shown_by (Some g) = g.shown
 
--- What sign s among n signs takes, by the kinds of sign that are fitted.
-module _ {S : Type 0} (admits : S → Shape → Bool) where
-  abbrev pub kind_takes : Option S → Shape → Bool
-  kind_takes None h = false
-  kind_takes (Some k) h = admits k h
+abbrev pub shown_face : Option Shown → Face
+shown_face None = dark
+shown_face (Some w) = lit w.look w.picture
 
-  abbrev pub takes_in : ℕ → List (Option S) → ℕ → Shape → Bool
-  takes_in n ks s h = cond (has n s) (kind_takes (slice_index_or ks (s - 1) None) h) false
+module _ {K : Type 0} (admits : K → Shape → Bool) where
+  -- what a sign takes, by its kind; a lacking sign takes nothing
+  abbrev pub sign_takes : Option (Sign K) → Shape → Bool
+  sign_takes None h = false
+  sign_takes (Some g) h = admits g.kind h
+
+  abbrev pub bank_takes : SignRack K → ℕ → Shape → Bool
+  bank_takes r s h = sign_takes (numbered r.signs.items s) h
+
+module _ {K : Type 0} where
+  abbrev pub bank_count : SignRack K → ℕ
+  bank_count r = length r.signs.items
+
+  abbrev pub bank_face : SignRack K → ℕ → Face
+  bank_face r s = shown_face (shown_by (numbered r.signs.items s))
 
 -- The answer to fitting one more sign to a rack of n signs: its number, or why not.
 abbrev pub fitting : ℕ → Bool → Result ℕ Refusal

@@ -4,8 +4,8 @@ use Rattle.rack.specs.declared.look.Kind.{Kind}
 use Rattle.rack.specs.declared.look.Kind.TheVariants.{Text, Graphic}
 use Rattle.rack.specs.declared.look.Shape.{Shape}
 use Rattle.rack.specs.declared.text.TextSign.{TextSign}
-use Rattle.rack.specs.declared.text.TextRack.{TextRack}
-use Rattle.rack.specs.Bank.{takes_in}
+use Rattle.rack.specs.declared.bank.SignRack.{SignRack}
+use Rattle.rack.specs.Bank.{bank_takes}
 
 abbrev pub is_text : Kind → Bool
 is_text Text = true
@@ -17,8 +17,8 @@ text_takes width h = is_text h.kind && (h.rows == 1 && (h.columns == h.length &&
 abbrev pub text_sign_takes : TextSign → Shape → Bool
 text_sign_takes k h = text_takes k.width h
 
-abbrev pub text_rack_takes : TextRack → ℕ → Shape → Bool
-text_rack_takes r s h = takes_in text_sign_takes r.bank.count r.signs s h
+abbrev pub text_rack_takes : SignRack TextSign → ℕ → Shape → Bool
+text_rack_takes r s h = bank_takes text_sign_takes r s h
 
 -- a width that a text sign can have
 abbrev pub width_fits : ℕ → Bool

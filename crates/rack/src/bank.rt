@@ -1,13 +1,14 @@
 ghost use Rattle.std.specs.Prelude.{◌≤◌};
+ghost use Rattle.arrayvec.specs.ArrayVec.{array_vec_len};
 
-use crate::panel::Panel;
+use crate::sign::Sign;
+use arrayvec::ArrayVec;
 
-pub mod faces;
+pub mod signs;
 
-// The face memories of up to twelve signs, numbered from 1.
+// Up to twelve signs of one kind, numbered from 1.
 #[derive(Drop)]
-pub(crate) struct Bank {
-    count: u8,
-    panels: [Panel; 12],
-    ghost few: { count ≤ 12 },
+pub struct SignRack<K> {
+    signs: ArrayVec<Sign<K>, 12>,
+    ghost few: { array_vec_len signs ≤ 12 },
 }

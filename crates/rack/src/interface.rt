@@ -3,12 +3,24 @@ ghost use Rattle.rack.specs.declared.look.Shape.{Shape as TheShape};
 ghost use Rattle.rack.specs.Face.{Face, dark, lit, shape_of, look_of, picture_of, has, Elsewhere, SameTaking};
 
 use crate::look::{Look, Shape};
+use std::error::Error;
+use std::fmt;
 
 // Why a sign did not show a picture.
-#[derive(Clone, Copy)]
+#[derive(Clone, Copy, Debug, PartialEq, Eq)]
 pub enum ShowError {
     NotTaken,
 }
+
+impl fmt::Display for ShowError {
+    fn fmt<W: fmt::Write>(&self, f: &mut fmt::Formatter<W>) -> fmt::Result {
+        f.write_str(match self {
+            ShowError::NotTaken => "the sign does not take the picture",
+        })
+    }
+}
+
+impl Error for ShowError {}
 
 // Signs numbered from 1, each with a fixed rule for what it takes, and a face.
 pub trait Rack {

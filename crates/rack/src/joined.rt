@@ -1,9 +1,16 @@
 ghost use Rattle.std.specs.Prelude.{◌≡◌, ℕ};
-ghost use Rattle.rack.specs.Joined.{joined_signs, joined_takes, joined_face};
+ghost use Rattle.rack.specs.Joined.{joined_signs, joined_takes, joined_face, side_of};
 ghost use Rattle.std.proofs.Common.{rules};
 
 use crate::interface::{Rack, ShowError};
 use crate::look::{Look, Shape};
+
+// A sign's rack, with its number there.
+#[derive(Clone, Copy)]
+enum Side {
+    First(u8),
+    Second(u8),
+}
 
 // One rack's signs, then another's; those past 255 are lacking.
 #[derive(Drop)]
@@ -18,6 +25,18 @@ impl<A: Rack, B: Rack> JoinedRack<A, B> {
         ensures second { result.second ≡ second }
     {
         JoinedRack { first, second }
+    }
+
+    // On which side of the seam a sign is.
+    fn side(&self, sign: u8) -> Side
+        ensures { result ≡ side_of (A.signs self.now.first) sign }
+    {
+        let seam = self.first.sign_count();
+        if sign <= seam {
+            Side::First(sign)
+        } else {
+            Side::Second(sign - seam)
+        }
     }
 }
 
@@ -41,47 +60,37 @@ impl<A: Rack, B: Rack> Rack for JoinedRack<A, B> {
     }
 
     fn accepts(&self, sign: u8, shape: Shape) -> bool {
-        let seam = self.first.sign_count();
-        if sign <= seam {
-            self.first.accepts(sign, shape)
-        } else {
-            self.second.accepts(sign - seam, shape)
+        match self.side(sign) {
+            Side::First(sign) => self.first.accepts(sign, shape),
+            Side::Second(sign) => self.second.accepts(sign, shape),
         }
     }
 
     fn look(&self, sign: u8) -> Option<Look> {
-        let seam = self.first.sign_count();
-        if sign <= seam {
-            self.first.look(sign)
-        } else {
-            self.second.look(sign - seam)
+        match self.side(sign) {
+            Side::First(sign) => self.first.look(sign),
+            Side::Second(sign) => self.second.look(sign),
         }
     }
 
     fn picture(&self, sign: u8) -> &[u8] {
-        let seam = self.first.sign_count();
-        if sign <= seam {
-            self.first.picture(sign)
-        } else {
-            self.second.picture(sign - seam)
+        match self.side(sign) {
+            Side::First(sign) => self.first.picture(sign),
+            Side::Second(sign) => self.second.picture(sign),
         }
     }
 
     fn show(&mut self, sign: u8, look: Look, picture: &[u8]) -> Result<(), ShowError> {
-        let seam = self.first.sign_count();
-        if sign <= seam {
-            self.first.show(sign, look, picture)
-        } else {
-            self.second.show(sign - seam, look, picture)
+        match self.side(sign) {
+            Side::First(sign) => self.first.show(sign, look, picture),
+            Side::Second(sign) => self.second.show(sign, look, picture),
         }
     }
 
     fn darken(&mut self, sign: u8) {
-        let seam = self.first.sign_count();
-        if sign <= seam {
-            self.first.darken(sign);
-        } else {
-            self.second.darken(sign - seam);
+        match self.side(sign) {
+            Side::First(sign) => self.first.darken(sign),
+            Side::Second(sign) => self.second.darken(sign),
         }
     }
 }

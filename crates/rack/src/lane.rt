@@ -1,11 +1,11 @@
 ghost use Rattle.std.specs.Prelude.{◌≤◌};
 
-use crate::bank::Bank;
+use crate::bank::SignRack;
 
 pub mod signs;
 
 // A sign of rows of pixels.
-#[derive(Clone, Copy)]
+#[derive(Clone, Copy, Debug, PartialEq, Eq)]
 pub struct LaneSign {
     rows: u8,
     columns: u8,
@@ -14,8 +14,4 @@ pub struct LaneSign {
 }
 
 // Up to twelve lane signs.
-#[derive(Drop)]
-pub struct LaneRack {
-    signs: [Option<LaneSign>; 12],
-    bank: Bank,
-}
+pub type LaneRack = SignRack<LaneSign>;

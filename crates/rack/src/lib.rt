@@ -5,11 +5,11 @@
 // meaning. A sign that the rack lacks is dark and takes nothing.
 #![tactic(auto)]
 
-mod bank;
+pub mod bank;
 pub mod interface;
 pub mod joined;
 pub mod lane;
 pub mod look;
-mod panel;
 pub mod refusal;
+pub mod sign;
 pub mod text;

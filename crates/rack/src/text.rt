@@ -1,19 +1,15 @@
 ghost use Rattle.std.specs.Prelude.{◌≤◌};
 
-use crate::bank::Bank;
+use crate::bank::SignRack;
 
 pub mod signs;
 
 // A sign of one row of characters.
-#[derive(Clone, Copy)]
+#[derive(Clone, Copy, Debug, PartialEq, Eq)]
 pub struct TextSign {
     width: u8,
     ghost few: { width ≤ 128 },
 }
 
 // Up to twelve text signs.
-#[derive(Drop)]
-pub struct TextRack {
-    signs: [Option<TextSign>; 12],
-    bank: Bank,
-}
+pub type TextRack = SignRack<TextSign>;

@@ -2,8 +2,8 @@
 // is too wide, and darkens a sign. After each step it prints every sign.
 #![tactic(auto)]
 
-use anyhow::anyhow;
-use rack::interface::Rack;
+use anyhow::Context;
+use rack::interface::{Rack, ShowError};
 use rack::joined::JoinedRack;
 use rack::lane::LaneRack;
 use rack::look::{Kind, Look};
@@ -49,12 +49,10 @@ fn arrow_look() -> Look {
 
 // Shows a text of up to 255 characters on a sign, and prints how it went.
 fn show_text(rt: &HostRuntime, rack: &mut Gantry, sign: u8, text: &str) -> anyhow::Result<()> {
-    let Ok(columns) = u8::try_from(text.len()) else {
-        return Err(anyhow!("the text is too long for any sign"));
-    };
+    let columns = u8::try_from(text.len()).context("the text is too long for any sign")?;
     match rack.show(sign, text_look(columns), text.as_bytes()) {
         Ok(()) => println!(rt; "sign {sign} shows {columns} characters")?,
-        Err(_) => println!(rt; "sign {sign} does not take {columns} characters")?,
+        Err(ShowError::NotTaken) => println!(rt; "sign {sign} does not take {columns} characters")?,
     }
     print_signs(rt, rack)
 }
@@ -62,18 +60,20 @@ fn show_text(rt: &HostRuntime, rack: &mut Gantry, sign: u8, text: &str) -> anyho
 fn show_arrow(rt: &HostRuntime, rack: &mut Gantry, sign: u8) -> anyhow::Result<()> {
     match rack.show(sign, arrow_look(), &ARROW) {
         Ok(()) => println!(rt; "sign {sign} shows the arrow")?,
-        Err(_) => println!(rt; "sign {sign} does not take the arrow")?,
+        Err(ShowError::NotTaken) => println!(rt; "sign {sign} does not take the arrow")?,
     }
     print_signs(rt, rack)
 }
 
 // Prints one row of pixels.
 fn print_row(rt: &HostRuntime, pixels: u8) -> anyhow::Result<()> {
-    let mut row = String::new(rt.alloc());
-    for column in 0..8u32 {
-        let lit = (pixels >> column) & 1 == 1;
-        row.push(if lit { '#' } else { '.' })?;
-    }
+    let row: String = (0..8u32)
+        .map(|column| if (pixels >> column) & 1 == 1 {
+            '#'
+        } else {
+            '.'
+        })
+        .collect(rt.alloc())?;
     println!(rt; "    {row}")?;
     Ok(())
 }
@@ -87,18 +87,13 @@ fn print_picture(rt: &HostRuntime, picture: &[u8]) -> anyhow::Result<()> {
 }
 
 fn print_text(rt: &HostRuntime, sign: u8, picture: &[u8]) -> anyhow::Result<()> {
-    let mut text = String::new(rt.alloc());
-    for code in picture {
-        text.push(char::from(*code))?;
-    }
+    let text: String = picture.iter().copied().map(char::from).collect(rt.alloc())?;
     println!(rt; "  sign {sign}: text {text}")?;
     Ok(())
 }
 
 fn print_signs(rt: &HostRuntime, rack: &Gantry) -> anyhow::Result<()> {
-    let count = rack.sign_count();
-    for k in 0..count {
-        let sign = k + 1;
+    for sign in 1..=rack.sign_count() {
         match rack.look(sign) {
             None => println!(rt; "  sign {sign}: dark")?,
             Some(look) => match look.kind {
@@ -114,9 +109,7 @@ fn print_signs(rt: &HostRuntime, rack: &Gantry) -> anyhow::Result<()> {
 }
 
 fn main(rt: HostRuntime) -> anyhow::Result<()> {
-    let Ok(mut rack) = gantry() else {
-        return Err(anyhow!("the gantry is refused"));
-    };
+    let mut rack = gantry().context("the gantry is refused")?;
     println!(rt; "fitted")?;
     print_signs(&rt, &rack)?;
     show_text(&rt, &mut rack, 1, "LANE CLOSED")?;

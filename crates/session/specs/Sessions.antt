@@ -1,5 +1,6 @@
 -- How a session moves.
-use Rattle.std.specs.Prelude.{ℕ, ◌+◌, Bool, true, false, cond, Some, None, Option, ◌==◌, nat_lt}
+use Rattle.std.specs.Prelude.{ℕ, ◌+◌, Bool, true, false, cond, List, Some, None, Option, ◌==◌, nat_lt, codes}
+use Rattle.session.specs.declared.Offsets.{Offsets}
 use Rattle.session.specs.declared.Session.{Session}
 use Rattle.session.specs.declared.Session.TheVariants.{Closed, Seeded, Open}
 use Rattle.session.specs.declared.Event.{Event}
@@ -10,6 +11,12 @@ abbrev pub is_open : Session → Bool
 is_open Closed = false
 is_open (Seeded s) = false
 is_open (Open n) = true
+
+-- how a session is printed
+abbrev pub name_of : Session → List ℕ
+name_of Closed = codes "closed"
+name_of (Seeded s) = codes "seeded"
+name_of (Open n) = codes "open"
 
 -- A second of silence in an open session; at the limit it closes.
 abbrev pub silent : ℕ → ℕ → Session
@@ -36,7 +43,7 @@ after (Open n) End = Closed
 after (Open n) (Tick l) = silent n l
 
 -- What a password is to a session: right or wrong where it is seeded, and nothing otherwise.
-abbrev pub judged : Session → ℕ → ℕ → ℕ → Option Event
-judged Closed w o p = None
-judged (Seeded s) w o p = cond (w == right_word s o p) (Some RightWord) (Some WrongWord)
-judged (Open n) w o p = None
+abbrev pub judged : Session → ℕ → Offsets → Option Event
+judged Closed w offsets = None
+judged (Seeded s) w offsets = cond (w == right_word s offsets) (Some RightWord) (Some WrongWord)
+judged (Open n) w offsets = None

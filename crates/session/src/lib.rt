@@ -3,12 +3,21 @@
 // every word.
 #![tactic(auto)]
 
-ghost use Rattle.std.specs.Prelude.{◌≡◌, ℕ, ◌+◌, ◌*◌, ◌%◌, Bool};
-ghost use Rattle.session.specs.Sessions.{after, is_open, judged};
+ghost use Rattle.std.specs.Prelude.{◌≡◌, Some};
+ghost use Rattle.session.specs.Sessions.{after, is_open, judged, name_of};
 ghost use Rattle.session.specs.Passwords.{right_word, Worked};
 
+use std::fmt;
+
+// What the site adds to a seed and to the password made of it.
+#[derive(Clone, Copy, Debug, PartialEq, Eq)]
+pub struct Offsets {
+    pub seed: u8,
+    pub password: u16,
+}
+
 // Where a session stands.
-#[derive(Clone, Copy)]
+#[derive(Clone, Copy, Debug, PartialEq, Eq)]
 pub enum Session {
     Closed,
     // a seed was drawn, and a password is awaited
@@ -18,7 +27,7 @@ pub enum Session {
 }
 
 // What can move a session.
-#[derive(Clone, Copy)]
+#[derive(Clone, Copy, Debug, PartialEq, Eq)]
 pub enum Event {
     Start(u8),
     RightWord,
@@ -30,41 +39,45 @@ pub enum Event {
 }
 
 // The word that opens a session which was seeded so.
-pub fn right_word(seed: u8, seed_offset: u8, password_offset: u16) -> u16
-    ensures word { result ≡ right_word seed seed_offset password_offset }
+pub fn right_word(seed: u8, offsets: Offsets) -> u16
+    ensures word { result ≡ right_word seed offsets }
     ensures worked { Worked }
 {
-    let key = seed.wrapping_add(seed_offset) as u16;
-    (key * 257).wrapping_add(password_offset)
+    let key = u16::from(seed.wrapping_add(offsets.seed));
+    (key * 257).wrapping_add(offsets.password)
+}
+
+impl fmt::Display for Session {
+    ghost output = { λ session. Some (name_of session) };
+
+    fn fmt<W: fmt::Write>(&self, f: &mut fmt::Formatter<W>) -> fmt::Result {
+        f.write_str(match self {
+            Session::Closed => "closed",
+            Session::Seeded(_) => "seeded",
+            Session::Open(_) => "open",
+        })
+    }
 }
 
 impl Session {
     pub fn is_open(self) -> bool
         ensures { result ≡ is_open self }
     {
-        match self {
-            Session::Open(_) => true,
-            Session::Closed | Session::Seeded(_) => false,
-        }
+        matches!(self, Session::Open(_))
     }
 
     // What a password is to the session: nothing where it is not seeded, or whether the word is right.
-    pub fn judge(self, word: u16, seed_offset: u8, password_offset: u16) -> Option<Event>
-        ensures { result ≡ judged self word seed_offset password_offset }
+    pub fn judge(self, word: u16, offsets: Offsets) -> Option<Event>
+        ensures { result ≡ judged self word offsets }
     {
         match self {
-            Session::Seeded(seed) => {
-                if word == right_word(seed, seed_offset, password_offset) {
-                    Some(Event::RightWord)
-                } else {
-                    Some(Event::WrongWord)
-                }
-            }
+            Session::Seeded(seed) if word == right_word(seed, offsets) => Some(Event::RightWord),
+            Session::Seeded(_) => Some(Event::WrongWord),
             Session::Closed | Session::Open(_) => None,
         }
     }
 
-    // The session after an event.
+    // The session after an event: one match on both, as the rules are written.
     pub fn on(self, event: Event) -> Session
         ensures { result ≡ after self event }
     {

@@ -1,41 +1,24 @@
 -- Why a table gives the check word: a shift is linear, so a register may be shifted in parts.
-use Rattle.std.proofs.Common.{◌≡◌, ℕ, zero, suc, ◌+◌, ◌*◌, ◌/◌, ◌%◌, ◌^◌, ◌<◌, ◌≤◌, true, List, [], ◌∷◌, length, get_or, fold, sym, refl, ap, ◌∙◌, inl, inr, add-zero, arith}
+use Rattle.std.proofs.Common.{◌≡◌, ℕ, zero, suc, ◌+◌, ◌*◌, ◌/◌, ◌%◌, ◌^◌, ◌<◌, Bool, true, ◌==◌, ◌&&◌, List, [], ◌∷◌, length, get_or, sym, refl, ap, ◌∙◌, add-zero, arith}
 use lib.Bits.{bit_xor, xor_block, xor_assoc, xor_comm, xor_shifted, xor_shr, xor_mod, xor_lt, xor_zero_r}
 use Rattle.std.proofs.lemmas.Nat.{pow_pos}
 use Rattle.std.proofs.lemmas.Bool.Decides.{nat_tests}
-use Rattle.std.proofs.lemmas.Bool.{cases_lt, eqb-true, and_parts}
-use Rattle.std.specs.List.{AllByRecursion}
-use Rattle.wire.specs.CheckWord.{shifted, shifts, fed, check_word, tabled_from, tabled, Example}
+use Rattle.std.proofs.lemmas.Bool.{eqb-true, and_parts}
+use Rattle.wire.specs.CheckWord.{shifted, shifts, fed, check_word, Example}
 
-pub shifted-low : (w : ℕ) → w < 32768 → shifted w ≡ w * 2
+shifted-low : (w : ℕ) → w < 32768 → shifted w ≡ w * 2
 unfolding shifted
 shifted-low w h = grind (arith, nat_tests)
 
-shifted-high : (w : ℕ) → 32768 ≤ w → shifted w ≡ bit_xor (w * 2 % 65536) 4129
-unfolding shifted
-shifted-high w h = grind (arith, nat_tests)
-
 shifted-is : (w : ℕ) → w < 65536 → shifted w ≡ bit_xor (w * 2 % 65536) (w / 32768 * 4129)
-shifted-is w h =
-    elim (cases_lt w 32768) [
-      | inl l ↦
-          let q : w / 32768 * 4129 ≡ 0 = omega arith in
-          let m : w * 2 % 65536 ≡ w * 2 = omega arith in
-          let z = xor_zero_r (w * 2 % 65536) in
-          let s = shifted-low w l in
-          cc
-      | inr l ↦
-          let q : w / 32768 * 4129 ≡ 4129 = omega arith in
-          let s = shifted-high w l in
-          cc
-    ]
+unfolding shifted
+shifted-is w h = grind (arith, nat_tests, xor_zero_r)
 
-pub shifted-lt : (w : ℕ) → w < 65536 → shifted w < 65536
+shifted-lt : (w : ℕ) → w < 65536 → shifted w < 65536
+unfolding shifted
 shifted-lt w h =
-    elim (cases_lt w 32768) [
-      | inl l ↦ omega (arith, shifted-low w l)
-      | inr l ↦ omega (arith, shifted-high w l, xor_lt 16 (w * 2 % 65536) 4129 (omega arith) (omega arith))
-    ]
+    let x = xor_lt 16 (w * 2 % 65536) 4129 (omega arith) (omega arith) in
+    grind (arith, nat_tests)
 
 xor-times : (k a b : ℕ) → bit_xor (a * 2 ^ k) (b * 2 ^ k) ≡ bit_xor a b * 2 ^ k
 xor-times k a b = simp add-zero at (xor_block k a b 0 0 (pow_pos k) (pow_pos k))
@@ -50,15 +33,9 @@ carry (suc zero) (suc (suc q)) h k = absurd (omega arith)
 carry (suc (suc p)) q h k = absurd (omega arith)
 
 four : (a b p q : ℕ) → bit_xor (bit_xor a b) (bit_xor p q) ≡ bit_xor (bit_xor a p) (bit_xor b q)
-four a b p q =
-    let e1 = xor_assoc a b (bit_xor p q) in
-    let e2 = xor_assoc b p q in
-    let e3 = xor_comm b p in
-    let e4 = xor_assoc p b q in
-    let e5 = xor_assoc a p (bit_xor b q) in
-    cc
+four a b p q = cc (xor_assoc a b (bit_xor p q), xor_assoc b p q, xor_comm b p, xor_assoc p b q, xor_assoc a p (bit_xor b q))
 
-pub lin : (a b : ℕ) → a < 65536 → b < 65536 → shifted (bit_xor a b) ≡ bit_xor (shifted a) (shifted b)
+lin : (a b : ℕ) → a < 65536 → b < 65536 → shifted (bit_xor a b) ≡ bit_xor (shifted a) (shifted b)
 lin a b ha hb =
     let s = shifted-is (bit_xor a b) (xor_lt 16 a b ha hb) in
     let sa = shifted-is a ha in
@@ -78,21 +55,11 @@ lin-shifts zero a b ha hb = refl
 lin-shifts (suc k) a b ha hb = ap shifted (lin-shifts k a b ha hb) ∙ lin (shifts k a) (shifts k b) (shifts-lt k a ha) (shifts-lt k b hb)
 
 low : (l : ℕ) → l < 256 → shifts 8 l ≡ l * 256
-low l h =
-    let t1 : shifted l ≡ l * 2 = shifted-low l (omega arith) in
-    let t2 : shifted (l * 2) ≡ l * 4 = shifted-low (l * 2) (omega arith) ∙ omega arith in
-    let t3 : shifted (l * 4) ≡ l * 8 = shifted-low (l * 4) (omega arith) ∙ omega arith in
-    let t4 : shifted (l * 8) ≡ l * 16 = shifted-low (l * 8) (omega arith) ∙ omega arith in
-    let t5 : shifted (l * 16) ≡ l * 32 = shifted-low (l * 16) (omega arith) ∙ omega arith in
-    let t6 : shifted (l * 32) ≡ l * 64 = shifted-low (l * 32) (omega arith) ∙ omega arith in
-    let t7 : shifted (l * 64) ≡ l * 128 = shifted-low (l * 64) (omega arith) ∙ omega arith in
-    let t8 : shifted (l * 128) ≡ l * 256 = shifted-low (l * 128) (omega arith) ∙ omega arith in
-    cc
+low l h = grind (arith, shifted-low)
 
 pub by-table : (w b t : ℕ) → w < 65536 → b < 256 → t ≡ shifts 8 (bit_xor (w / 256) b * 256) → bit_xor (w * 256 % 65536) t ≡ fed w b
 unfolding fed
 by-table w b t hw hb e =
-    let i : ℕ = bit_xor (w / 256) b in
     let split : w / 256 * 256 + w % 256 ≡ w = omega arith in
     let x1 : bit_xor (w / 256 * 256) (w % 256) ≡ w / 256 * 256 + w % 256 = xor_shifted (w / 256) 8 (w % 256) (omega arith) in
     let x2 : bit_xor (w / 256 * 256) (b * 256) ≡ bit_xor (w / 256) b * 256 = xor-times 8 (w / 256) b in
@@ -109,36 +76,19 @@ by-table w b t hw hb e =
     let one : bit_xor (w * 256 % 65536) t ≡ bit_xor (shifts 8 (bit_xor (w / 256) b * 256)) (w % 256 * 256) = cc in
     one ∙ ap (bit_xor (shifts 8 (bit_xor (w / 256) b * 256))) (sym z) ∙ sym all
 
--- one test that computes, over a whole table, gives each of its entries
-entry-from : (xs : List ℕ) (i : ℕ) → tabled_from i xs ≡ true → (k : ℕ) → k < length xs → get_or xs k 0 ≡ shifts 8 ((i + k) * 256)
+-- One test that computes, over a whole table, gives each of its entries: from the place i on, what eight shifts make of the place.
+abbrev pub tabled : ℕ → List ℕ → Bool
+tabled i [] = true
+tabled i (x ∷ xs) = x == shifts 8 (i * 256) && tabled (suc i) xs
+
+entry-from : (xs : List ℕ) (i : ℕ) → tabled i xs ≡ true → (k : ℕ) → k < length xs → get_or xs k 0 ≡ shifts 8 ((i + k) * 256)
 entry-from [] i t k h = absurd (omega arith)
 entry-from (x ∷ xs) i t zero h = eqb-true x (shifts 8 (i * 256)) (and_parts _ _ t).0 ∙ ap (λ j. shifts 8 (j * 256)) (sym (add-zero i))
 entry-from (x ∷ xs) i t (suc k) h =
     entry-from xs (suc i) (and_parts _ _ t).1 k (omega arith) ∙ ap (λ j. shifts 8 (j * 256)) (omega arith)
 
-pub entry : (xs : List ℕ) → tabled xs ≡ true → (i : ℕ) → i < length xs → get_or xs i 0 ≡ shifts 8 (i * 256)
-unfolding tabled
+pub entry : (xs : List ℕ) → tabled 0 xs ≡ true → (i : ℕ) → i < length xs → get_or xs i 0 ≡ shifts 8 (i * 256)
 entry xs t i h = entry-from xs 0 t i h ∙ ap (λ j. shifts 8 (j * 256)) (omega arith)
-
-pub top_small : (w b : ℕ) → w < 65536 → b < 256 → bit_xor (w / 256) b < 256
-top_small w b h k = xor_lt 8 (w / 256) b (omega arith) k
-
-pub by_entries : (w b : ℕ) (xs : List ℕ) → w < 65536 → b < 256 → tabled xs ≡ true → length xs ≡ 256 → bit_xor (w * 256 % 65536) (get_or xs (bit_xor (w / 256) b) 0) ≡ fed w b
-by_entries w b xs hw hb t l =
-    by-table w b (get_or xs (bit_xor (w / 256) b) 0) hw hb (entry xs t (bit_xor (w / 256) b) (omega (arith, top_small w b hw hb)))
-
--- a check word is a word
-fed-small : (w b : ℕ) → w < 65536 → b < 256 → fed w b < 65536
-unfolding fed
-fed-small w b h k = shifts-lt 8 (bit_xor w (b * 256)) (xor_lt 16 w (b * 256) h (omega arith))
-
-folded-small : (bs : List ℕ) (w : ℕ) → w < 65536 → AllByRecursion (λ b. b < 256) bs → fold fed w bs < 65536
-folded-small [] w h a = h
-folded-small (b ∷ bs) w h a = folded-small bs (fed w b) (fed-small w b h a.0) a.1
-
-pub word_small : (bs : List ℕ) → AllByRecursion (λ b. b < 256) bs → check_word bs < 65536
-unfolding check_word
-word_small bs a = folded-small bs 0 (omega arith) a
 
 -- the published example
 pub example : Example

@@ -1,6 +1,5 @@
 pub mod CheckWord
 pub mod Spelling
-pub mod Over
 pub mod Writing
 pub mod Reading
 pub mod Noise

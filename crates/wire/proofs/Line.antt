@@ -1,19 +1,15 @@
 -- Why noise leaves no trace: quiet bytes move only the reader, and the next byte of the line starts it afresh.
-use Rattle.std.proofs.Common.{◌≡◌, ℕ, List, [], ◌∷◌, ◌++◌, Some, None, Option, sym, refl, ap, ◌∙◌, arith}
+use Rattle.std.proofs.Common.{◌≡◌, ℕ, List, [], ◌∷◌, ◌++◌, Some, None, Option, sym, refl, ap, ◌∙◌}
 use Rattle.std.specs.Option.{option_to_list}
 use Rattle.wire.specs.Packet.{SOH, Content}
 use Rattle.wire.specs.Reader.{State, next, taken, takes}
-use Rattle.wire.specs.Line.{Call, byte, other, Machine, acted, answered, reader-step, world-step, reply, world, reader, replies, Quiet, Starts, Restarts, others, spread, bytes, heard, Clean, line, Clean-in-gaps, Line-is-clean}
+use Rattle.wire.specs.Line.{Call, byte, other, Machine, acted, answered, reader-step, world-step, reply, world, reader, replies, Quiet, Starts, Restarts, others, spread, heard, Clean, line, Clean-in-gaps, Line-is-clean}
 
 module _ {B C : Type 0} where
   starts-others : (s : B) (ns xs : List (Call B C)) → Starts s xs → Starts s (others ns ++ xs)
   starts-others s [] xs h = h
   starts-others s (byte b ∷ ns) xs h = starts-others s ns xs h
   starts-others s (other c ∷ ns) xs h = starts-others s ns xs h
-
-  pub others-bytes : (bs : List B) → others {C = C} (bytes bs) ≡ []
-  others-bytes [] = refl
-  others-bytes (b ∷ bs) = others-bytes bs
 
 module _ {R B P C W A : Type 0} (m : Machine R B P C W A) where
   pub replies-append : (xs ys : List (Call B C)) (r : R) (w : W) → replies m r w (xs ++ ys) ≡ replies m r w xs ++ replies m (reader m r xs) (world m r w xs) ys
@@ -28,20 +24,12 @@ module _ {R B P C W A : Type 0} (m : Machine R B P C W A) (s : B) (again : Resta
   -- where the next byte starts a packet, it does not matter where the reader was
   pub same-world : (xs : List (Call B C)) (r q : R) (w : W) → Starts s xs → world m r w xs ≡ world m q w xs
   same-world [] r q w h = refl
-  same-world (byte b ∷ xs) r q w h =
-      (ap (λ c. world m (m.next-state r c) (acted m w (m.whole r c)) xs) h
-      ∙ (ap (λ o. world m (m.next-state r s) (acted m w o) xs) (again.none r ∙ sym (again.none q))
-      ∙ ap (λ t. world m t (acted m w (m.whole q s)) xs) (again.same r q)))
-      ∙ sym (ap (λ c. world m (m.next-state q c) (acted m w (m.whole q c)) xs) h)
+  same-world (byte b ∷ xs) r q w h = rw (h, again.none r, again.none q, again.same r q) refl
   same-world (other c ∷ xs) r q w h = same-world xs r q (m.move w c) h
 
   pub same-replies : (xs : List (Call B C)) (r q : R) (w : W) → Starts s xs → replies m r w xs ≡ replies m q w xs
   same-replies [] r q w h = refl
-  same-replies (byte b ∷ xs) r q w h =
-      (ap (λ c. answered m w (m.whole r c) ∷ replies m (m.next-state r c) (acted m w (m.whole r c)) xs) h
-      ∙ (ap (λ o. answered m w o ∷ replies m (m.next-state r s) (acted m w o) xs) (again.none r ∙ sym (again.none q))
-      ∙ ap (λ t. answered m w (m.whole q s) ∷ replies m t (acted m w (m.whole q s)) xs) (again.same r q)))
-      ∙ sym (ap (λ c. answered m w (m.whole q c) ∷ replies m (m.next-state q c) (acted m w (m.whole q c)) xs) h)
+  same-replies (byte b ∷ xs) r q w h = rw (h, again.none r, again.none q, again.same r q) refl
   same-replies (other c ∷ xs) r q w h = ap (λ t. m.result w c ∷ t) (same-replies xs r q (m.move w c) h)
 
   pub quiet-world : (ns : List (Call B C)) (r : R) (w : W) (xs : List (Call B C)) → Quiet m r ns → Starts s xs → world m r w (ns ++ xs) ≡ world m r w (others ns ++ xs)
@@ -68,7 +56,7 @@ module _ {R B P C W A : Type 0} (m : Machine R B P C W A) (s : B) (again : Resta
 
 none_first : (o : Option Content) (ps : List Content) → option_to_list o ++ ps ≡ [] → (o ≡ None) × (ps ≡ [])
 none_first None ps h = (refl, h)
-none_first (Some p) ps h = let z : ◌≡◌ {A = ℕ} 0 1 = cc in absurd (omega arith)
+none_first (Some p) ps h = absurd cc
 
 -- the line of this crate's reader is clean in any world
 module _ {C W A : Type 0} (act : W → Content → W) (answer : W → Content → A) (silence : A) (move : W → C → W) (result : W → C → A) where

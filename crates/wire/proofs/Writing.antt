@@ -1,11 +1,22 @@
 -- How a packet comes about, and its length.
-use Rattle.std.proofs.Common.{◌≡◌, ℕ, ◌+◌, ◌*◌, ◌≤◌, List, [], ◌∷◌, ◌++◌, length, take, drop, set, sym, refl, ap, ◌∙◌, arith}
-use Rattle.std.proofs.lemmas.List.{append_assoc, length-append, take_at, drop_at}
-use Rattle.wire.specs.Places.{over}
-use Rattle.wire.specs.Digits.{in_digits, bytes_of}
+use Rattle.std.proofs.Common.{◌≡◌, ℕ, ◌+◌, ◌*◌, ◌/◌, ◌%◌, ◌<◌, List, [], ◌∷◌, ◌++◌, length, get_or, take, drop, refl, ap, ◌∙◌, arith}
+use Rattle.std.proofs.lemmas.List.{append_assoc, length-append, take_at, drop_at, drop-drop, take_more}
+use borrow.Rule.Slice.PartMut.{put_mid}
+use Rattle.wire.specs.Digits.{in_digits, bytes_of, digit_of}
 use Rattle.wire.specs.CheckWord.{check_word}
 use Rattle.wire.specs.Packet.{body, encode}
-use Rattle.wire.proofs.Over.{over_none, over-push, over-over, take-over, length-in_digits}
+
+pub length-in_digits : (m : List ℕ) → length (in_digits m) ≡ 2 * length m
+length-in_digits [] = refl
+length-in_digits (b ∷ m) = omega (arith, length-in_digits m)
+
+in_digits-append : (l m : List ℕ) → in_digits (l ++ m) ≡ in_digits l ++ in_digits m
+in_digits-append [] m = refl
+in_digits-append (b ∷ l) m = ap (λ t. digit_of (b / 16) ∷ digit_of (b % 16) ∷ t) (in_digits-append l m)
+
+-- the digits of one byte more
+pub in_digits-more : (bs : List ℕ) (i : ℕ) → i < length bs → in_digits (take (i + 1) bs) ≡ in_digits (take i bs) ++ (digit_of (get_or bs i 0 / 16) ∷ digit_of (get_or bs i 0 % 16) ∷ [])
+in_digits-more bs i h = ap in_digits (take_more bs i 0 h) ∙ in_digits-append (take i bs) (get_or bs i 0 ∷ [])
 
 pub length-body : (n a : ℕ) (m : List ℕ) → length (body n a m) ≡ 6 + 2 * length m
 unfolding body
@@ -15,29 +26,20 @@ pub length-encode : (n a : ℕ) (m : List ℕ) → length (encode n a m) ≡ 6 +
 unfolding encode
 length-encode n a m = simp length-append (omega (arith, length-body n a m))
 
-pub filled : (d m : List ℕ) (n a w : ℕ) (o2 o4 o5 : List ℕ) → 2 * length m + 11 ≤ length d
-    → o2 ≡ over (set d 0 1) 1 (in_digits (n ∷ a ∷ [])) → o4 ≡ over (set o2 5 2) 6 (in_digits m)
-    → w ≡ check_word (take (6 + 2 * length m) o4) → o5 ≡ over o4 (6 + 2 * length m) (in_digits (bytes_of w))
-    → set o5 (6 + 2 * length m + 4) 3 ≡ over d 0 (encode n a m)
-unfolding body encode
-filled d m n a w o2 o4 o5 room e2 e4 ew e5 =
-    let h2 : List ℕ = 1 ∷ in_digits (n ∷ a ∷ []) in
-    let h3 : List ℕ = 1 ∷ (in_digits (n ∷ a ∷ []) ++ 2 ∷ []) in
-    let s0 = over_none d 0 in
-    let s1 : set (over d 0 []) 0 1 ≡ over d 0 (1 ∷ []) = over-push d 0 [] 0 1 (omega arith) (omega arith) in
-    let s2 : over (over d 0 (1 ∷ [])) 1 (in_digits (n ∷ a ∷ [])) ≡ over d 0 h2 = over-over d 0 (1 ∷ []) (in_digits (n ∷ a ∷ [])) 1 refl (omega arith) in
-    let s3 : set (over d 0 h2) 5 2 ≡ over d 0 h3 = over-push d 0 h2 5 2 refl (omega arith) in
-    let s4 : over (over d 0 h3) 6 (in_digits m) ≡ over d 0 (body n a m) = over-over d 0 h3 (in_digits m) 6 refl (omega (arith, length-in_digits m)) in
-    let f4 : o4 ≡ over d 0 (body n a m) = cc in
-    let t4 : take (6 + 2 * length m) o4 ≡ body n a m = ap (take (6 + 2 * length m)) f4 ∙ take-over d (body n a m) (6 + 2 * length m) (sym (length-body n a m)) in
-    let fw : w ≡ check_word (body n a m) = ew ∙ ap check_word t4 in
-    let s5 = over-over d 0 (body n a m) (in_digits (bytes_of w)) (6 + 2 * length m) (omega (arith, length-body n a m)) (omega arith) in
-    let s6 = over-push d 0 (body n a m ++ in_digits (bytes_of w)) (6 + 2 * length m + 4) 3 (omega (arith, length-append (body n a m) (in_digits (bytes_of w)), length-body n a m)) (omega arith) in
-    let s7 = append_assoc (body n a m) (in_digits (bytes_of w)) (3 ∷ []) in
-    cc
+-- a part that is written right behind what was written before it
+behind : (out written part : List ℕ) (at k e : ℕ) → length written ≡ at → at + k ≡ e → put_mid at k (written ++ drop at out) part ≡ (written ++ part) ++ drop e out
+behind out written part at k e l h = simp (take_at, drop_at, drop-drop, l, h, append_assoc)
 
-pub laid : (d p e : List ℕ) (k : ℕ) → e ≡ over d 0 p → k ≡ length p → (take k e ≡ p) × (drop k e ≡ drop k d)
-unfolding over
-laid d p e k h l =
-    let z : 0 + length p ≡ k = omega arith in
-    (ap (take k) h ∙ take_at p (drop (0 + length p) d) k (sym l), ap (drop k) h ∙ drop_at p (drop (0 + length p) d) k (sym l) ∙ ap (λ j. drop j d) z)
+-- a packet in three parts: six bytes, the digits of its message, and five bytes
+pub filled : (out m head digits end : List ℕ) (n a k j : ℕ) → head ≡ 1 ∷ (in_digits (n ∷ a ∷ []) ++ 2 ∷ []) → digits ≡ in_digits m
+    → end ≡ in_digits (bytes_of (check_word (take (6 + 2 * length m) (put_mid 6 k (head ++ drop 6 out) digits)))) ++ 3 ∷ []
+    → k ≡ 2 * length m → j ≡ 5 → put_mid (6 + 2 * length m) j (put_mid 6 k (head ++ drop 6 out) digits) end ≡ encode n a m ++ drop (6 + 2 * length m + 5) out
+unfolding encode body
+filled out m head digits end n a k j eh ed ee ek ej =
+    let b : head ++ digits ≡ body n a m = cc in
+    let one : put_mid 6 k (head ++ drop 6 out) digits ≡ body n a m ++ drop (6 + 2 * length m) out =
+    behind out head digits 6 k (6 + 2 * length m) (ap length eh) (omega arith) ∙ ap (λ x. x ++ drop (6 + 2 * length m) out) b in
+    let w = ap (take (6 + 2 * length m)) one ∙ take_at (body n a m) (drop (6 + 2 * length m) out) (6 + 2 * length m) (length-body n a m) in
+    let t = ee ∙ ap (λ x. in_digits (bytes_of (check_word x)) ++ 3 ∷ []) w in
+    ap (λ x. put_mid (6 + 2 * length m) j x end) one ∙ behind out (body n a m) end (6 + 2 * length m) j (6 + 2 * length m + 5) (length-body n a m) (omega arith)
+    ∙ ap (λ x. (body n a m ++ x) ++ drop (6 + 2 * length m + 5) out) t

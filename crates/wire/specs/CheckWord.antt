@@ -1,5 +1,5 @@
 -- The check word: the 16-bit CRC with generator 1021h, register starting at 0, high bit first, nothing inverted.
-use Rattle.std.specs.Prelude.{◌≡◌, ℕ, zero, suc, ◌*◌, ◌%◌, Bool, true, cond, ◌&&◌, List, [], ◌∷◌, codes, fold, ◌==◌, bit_xor, nat_lt}
+use Rattle.std.specs.Prelude.{◌≡◌, ℕ, zero, suc, ◌*◌, ◌%◌, cond, List, codes, fold, bit_xor, nat_lt}
 
 -- one shift of the register: the bit that leaves it at the top calls for the generator
 unfoldable pub shifted : ℕ → ℕ
@@ -15,14 +15,6 @@ fed w b = shifts 8 (bit_xor w (b * 0x100))
 
 unfoldable pub check_word : List ℕ → ℕ
 check_word bs = fold fed 0 bs
-
--- from the place i on, a table holds what eight shifts make of each place at the top of the register
-abbrev pub tabled_from : ℕ → List ℕ → Bool
-tabled_from i [] = true
-tabled_from i (x ∷ xs) = x == shifts 8 (i * 0x100) && tabled_from (suc i) xs
-
-unfoldable pub tabled : List ℕ → Bool
-tabled xs = tabled_from 0 xs
 
 -- the published example
 abbrev pub Example : Type 0

@@ -1,8 +1,6 @@
 pub mod CheckWord
 pub mod Digits
 pub mod Packet
-pub mod Places
-pub mod Stage
 pub mod Reader
 pub mod Noise
 pub mod Line

@@ -1,9 +1,6 @@
 -- The reader of a line: its state after each byte, and the packets that it takes.
-use Rattle.std.specs.Prelude.{ℕ, cond, List, [], ◌∷◌, ◌++◌, length, take, None, Option, ◌==◌, nat_lt}
+use Rattle.std.specs.Prelude.{ℕ, cond, List, [], ◌∷◌, ◌++◌, length, take, fold, Some, None, Option, ◌==◌, nat_lt}
 use Rattle.std.specs.Option.{option_to_list}
-use Rattle.wire.specs.declared.reader.Reader.{Reader}
-use Rattle.wire.specs.declared.reader.stage.Stage.{Stage}
-use Rattle.wire.specs.declared.reader.stage.Stage.TheVariants.{Rest, Gathering}
 use Rattle.wire.specs.Packet.{SOH, ETX, Content, decode}
 
 -- at rest, or with the bytes of a packet gathered so far
@@ -31,18 +28,14 @@ taken s b = cond (b == SOH) None (ended s b)
 
 -- the state after a stretch of the line
 abbrev pub run : State → List ℕ → State
-run s [] = s
-run s (b ∷ bs) = run (next s b) bs
+run s bs = fold next s bs
 
 -- the packets taken from a stretch of the line
 abbrev pub takes : State → List ℕ → List Content
 takes s [] = []
 takes s (b ∷ bs) = option_to_list (taken s b) ++ takes (next s b) bs
 
--- the state that a reader is in
-abbrev pub at : Stage → List ℕ → State
-at Rest g = rest
-at (Gathering n) g = gathering (take n g)
-
-abbrev pub held : Reader → State
-held r = at r.stage r.gathered
+-- what a reader holds: nothing, or the first n of the bytes in its memory
+abbrev pub held : Option ℕ → List ℕ → State
+held None g = rest
+held (Some n) g = gathering (take n g)

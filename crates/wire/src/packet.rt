@@ -1,4 +1,7 @@
-ghost use Rattle.std.specs.Prelude.{◌≤◌};
+ghost use Rattle.std.specs.Prelude.{◌≤◌, length};
+
+use octets::Octets;
+use std::marker::Model;
 
 pub mod reading;
 pub mod writing;
@@ -9,8 +12,14 @@ pub const PACKET_MOST: usize = 1547;
 // The most bytes of a message.
 pub const MESSAGE_MOST: usize = 768;
 
+// The bytes of a packet before its message.
+const HEAD: usize = 6;
+
+// The bytes of a packet behind its message.
+const TAIL: usize = 5;
+
 // The bytes of a packet beside those of its message.
-const FRAME: usize = 11;
+const FRAME: usize = HEAD + TAIL;
 
 pub const SOH: u8 = 1;
 
@@ -18,12 +27,23 @@ pub const STX: u8 = 2;
 
 pub const ETX: u8 = 3;
 
-// A whole packet: its message is the first `len` of `bytes`.
+// A whole packet: its message has at least one byte.
 #[derive(Clone, Copy)]
 pub struct Packet {
     pub number: u8,
     pub address: u8,
-    bytes: [u8; 768],
-    len: usize,
-    ghost ok: { (1 ≤ len) × (len ≤ 768) },
+    message: Octets<MESSAGE_MOST>,
+}
+
+impl Model for Packet {
+    ghost use Rattle.std.specs.Prelude.{◌≤◌, length};
+    ghost use Rattle.wire.specs.Packet.{Content, content};
+
+    ghost Value = { Content };
+
+    ghost view = { λ p. content p.number p.address p.message };
+
+    ghost invariant = { λ p. 1 ≤ length p.message };
+
+    ghost inverse = { λ c. record { number = c.number; address = c.address; message = c.message } };
 }

@@ -93,7 +93,7 @@ impl Clock {
         ensures value { result ≡ minute_of_week self.now.shown }
         ensures counted { result ≡ moment self.now.shown / 60 % 10080 }
     {
-        u16::from(self.weekday().number()) * 1440 + self.minute_of_day()
+        u16::from(u8::from(self.weekday())) * 1440 + self.minute_of_day()
     }
 
     // Seconds since the beginning of the day before 1 January of the year 1. They tell the clock.

@@ -1,53 +1,50 @@
-ghost use Rattle.std.specs.Prelude.{◌≡◌, ◌*◌, ◌≤◌, length};
-ghost use Rattle.std.specs.Option.{option_map};
-ghost use Rattle.wire.specs.Digits.{Spells};
-ghost use Rattle.wire.specs.Packet.{framed, decode, said, Whole};
+ghost use Rattle.std.specs.Prelude.{◌≡◌, ◌*◌, ◌≤◌, length, IfSome};
+ghost use Rattle.std.specs.Bool.{OnTrue};
+ghost use Rattle.wire.specs.Digits.{from_digits};
+ghost use Rattle.wire.specs.Packet.{framed, decode, Whole};
 
 use crate::crc::check_word;
 use crate::digits::{byte_of, word_digits};
-use crate::packet::{ETX, FRAME, MESSAGE_MOST, PACKET_MOST, Packet, SOH, STX};
+use crate::packet::{ETX, FRAME, HEAD, MESSAGE_MOST, PACKET_MOST, Packet, SOH, STX, TAIL};
+use octets::Octets;
 
-// Reads the bytes that the digits spell into `into`, and answers whether all are digits.
-fn get_digits(digits: &[u8], into: &mut [u8]) -> bool
-    requires { length digits.now ≡ 2 * length into.old }
-    ensures { Spells digits.now result into.new }
+// The bytes that digits spell.
+fn from_digits(digits: &[u8]) -> Option<Octets<MESSAGE_MOST>>
+    requires { length digits.now ≤ 1536 }
+    ensures bytes { result ≡ from_digits digits.now }
+    ensures long { IfSome result (λ bytes. 2 * length bytes ≡ length digits.now) }
 {
-    for i in 0..into.len() {
-        match byte_of(digits[2 * i], digits[2 * i + 1]) {
-            Some(byte) => into[i] = byte,
-            None => return false,
-        }
+    let mut bytes = Octets::new();
+    let mut left = digits;
+    while let [high, low, rest @ ..] = left {
+        bytes.push(byte_of(*high, *low)?);
+        left = rest;
     }
-    true
+    left.is_empty().then_some(bytes)
 }
 
 // Whether the bytes have a packet's frame: its length, its marks and its check word.
+#[tactic(auto, unfolding(crate::specs::Packet::framed))]
 fn is_framed(bytes: &[u8]) -> bool
-    ensures { result ≡ framed bytes.now }
+    ensures frame { result ≡ framed bytes.now }
+    ensures long { OnTrue result ((13 ≤ length bytes.now) × (length bytes.now ≤ 1547)) }
 {
-    let len = bytes.len();
-    if len < FRAME + 2 || len > PACKET_MOST {
+    let [SOH, _, _, _, _, STX, ..] = bytes else {
+        return false;
+    };
+    if !(FRAME + 2..=PACKET_MOST).contains(&bytes.len()) {
         return false;
     }
-    match bytes {
-        [soh, _, _, _, _, stx, .., first, second, third, fourth, etx] => {
-            let [a, b, c, d] = word_digits(check_word(&bytes[0..len - 5]));
-            *soh == SOH
-                && *stx == STX
-                && *etx == ETX
-                && *first == a
-                && *second == b
-                && *third == c
-                && *fourth == d
-        }
-        _ => false,
-    }
+    let (body, end) = bytes.split_at(bytes.len() - TAIL);
+    let [first, second, third, fourth] = word_digits(check_word(body));
+    end == [first, second, third, fourth, ETX].as_slice()
 }
 
 impl Packet {
     // The packet that the bytes are, if they are one.
+    #[tactic(auto, unfolding(crate::specs::Packet::decode))]
     pub fn read(bytes: &[u8]) -> Option<Packet>
-        ensures packet { option_map said result ≡ decode bytes.now }
+        ensures packet { result ≡ decode bytes.now }
         ensures whole { Whole bytes.now result }
     {
         if !is_framed(bytes) {
@@ -56,29 +53,18 @@ impl Packet {
         let [_, number_high, number_low, address_high, address_low, ..] = bytes else {
             return None;
         };
-        let number = byte_of(*number_high, *number_low)?;
-        let address = byte_of(*address_high, *address_low)?;
-        let len = (bytes.len() - FRAME) / 2;
-        if bytes.len() != 2 * len + FRAME {
-            return None;
-        }
-        let mut message = [0; MESSAGE_MOST];
-        if !get_digits(&bytes[6..bytes.len() - 5], &mut message[0..len]) {
-            return None;
-        }
         Some(Packet {
-            number,
-            address,
-            bytes: message,
-            len,
+            number: byte_of(*number_high, *number_low)?,
+            address: byte_of(*address_high, *address_low)?,
+            message: from_digits(&bytes[HEAD..bytes.len() - TAIL])?,
         })
     }
 
     // The message, in place.
     pub fn message(&self) -> &[u8]
-        ensures bytes { result.now ≡ (said self.now).message }
+        ensures bytes { result.now ≡ self.now.message }
         ensures long { (1 ≤ length result.now) × (length result.now ≤ 768) }
     {
-        &self.bytes[0..self.len]
+        self.message.as_slice()
     }
 }

@@ -1,4 +1,5 @@
-use Rattle.std.proofs.Common.{◌≡◌, ℕ, ◌+◌, Bool, cond, ap, ◌∙◌, arith}
+use Rattle.std.proofs.Common.{◌≡◌, ◌∙◌, arith}
+use Rattle.std.proofs.lemmas.Grind.{common_steps}
 use Rattle.analog.specs.Codes.{count, mark_from, degree_mark}
 use Rattle.analog.proofs.Counts.{count_same, count-le}
 use Rattle.analog.proofs.Degrees.{near-degrees}
@@ -12,6 +13,6 @@ pub returns-else-is_nan : goal.returns-else-is_nan
 returns-else-is_nan c =
     let e : c.marks_reached.result ≡ count degree_mark 100 c.args.degrees = c.marks_reached.ensures ∙ count_same (mark_from coldest) degree_mark 100 c.args.degrees degree-marks in
     record {
-      value = ap (λ (z : ℕ). 80 + z) e ∙ ap (λ (b : Bool). cond b 0 (80 + count degree_mark 100 c.args.degrees)) c.if-is_nan.ensures.value;
+      value = grind (arith, common_steps, e);
       near = λ l u. near-degrees c.marks_reached.result c.args.degrees e (omega arith) (omega arith);
     }

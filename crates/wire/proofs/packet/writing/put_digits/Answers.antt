@@ -1,14 +1,11 @@
-use Rattle.std.proofs.Common.{ℕ, List, get_or, ap, arith, rules}
-use Rattle.std.proofs.lemmas.List.{take_all}
-use Rattle.wire.proofs.Over.{over_none, put-more}
+use Rattle.std.proofs.Common.{◌+◌, ◌*◌, ◌-◌, length, ap, ◌∙◌, arith}
+use Rattle.std.proofs.lemmas.Slice.{take-put_mid}
+use Rattle.wire.proofs.Writing.{in_digits-more}
 use Rattle.wire.proofs.packet.writing.put_digits.Goals as goal
 
-pub loop-i-init : goal.loop-i-init
-loop-i-init c = over_none _ _
-
 pub loop-i-preserved : goal.loop-i-preserved
-loop-i-preserved c = put-more _ _ _ _ _ _ _ (omega arith) (omega arith) c.loop-i.invariant
-    (ap (λ (ds : List ℕ). get_or ds 0 0) c.digits_of.ensures.digits) (ap (λ (ds : List ℕ). get_or ds 1 0) c.digits_of.ensures.digits)
-
-pub returns : goal.returns
-returns c = search (rules, take_all)
+loop-i-preserved c =
+    let w = c.copy_from_slice.ensures.after ∙ c.digits_of.ensures.digits in
+    let m = in_digits-more c.args.bytes.now c.loop-i.i c.loop-i-test.true in
+    let t = take-put_mid (2 * c.loop-i.i) (2 * c.loop-i.i + 2 - 2 * c.loop-i.i) c.loop-i.out c.copy_from_slice.new.self (2 * (c.loop-i.i + 1)) (omega (arith, ap length w)) (omega arith) in
+    cc

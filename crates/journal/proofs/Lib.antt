@@ -1,2 +1,0 @@
-mod Shifts
-pub mod Appends

@@ -1,0 +1,31 @@
+ghost use Rattle.std.specs.Prelude.{◌≡◌, ◌≤◌, Bool, true};
+ghost use Rattle.rack.specs.declared.look.Shape.{Shape as TheShape};
+
+use crate::look::{Look, Shape};
+use octets::Octets;
+
+// A kind of sign: what a sign takes depends on it alone.
+pub trait SignKind: Copy + Default {
+    // what a sign of this kind takes
+    ghost admits: { Self → TheShape → Bool };
+
+    fn takes(&self, shape: Shape) -> bool
+        ensures { result ≡ admits self.now shape };
+
+    // what it takes fits a sign's memory
+    ghost small: { (k : Self) (h : TheShape) → admits k h ≡ true → h.length ≤ 128 };
+}
+
+// A look, and the picture that is shown so.
+#[derive(Drop)]
+pub(crate) struct Shown {
+    pub(crate) look: Look,
+    pub(crate) picture: Octets<128>,
+}
+
+// One sign: its kind, and what it shows; a dark sign shows nothing.
+#[derive(Default, Drop)]
+pub(crate) struct Sign<K> {
+    pub(crate) kind: K,
+    pub(crate) shown: Option<Shown>,
+}
