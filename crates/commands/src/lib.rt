@@ -5,6 +5,7 @@
 #![tactic(auto)]
 
 pub mod command;
+pub mod kind;
 pub mod lists;
 pub mod parsing;
 pub mod rejection;

@@ -1,1 +1,1 @@
-pub mod Listing
+mod Listing

@@ -1,41 +1,14 @@
--- What a look through a list has yet to find.
-use Rattle.std.proofs.Common.{◌≡◌, ℕ, ◌+◌, ◌<◌, ◌≤◌, Bool, true, false, cond, ◌&&◌, List, [], ◌∷◌, length, get_or, drop, Some, None, Option, sym, refl, ap, ◌∙◌}
-use Rattle.std.proofs.lemmas.List.{at_drop_more, at_drop_all}
-use Rattle.fitness.specs.Fitness.{blank_from, listed_from, ended_at}
-
--- what is left to find after a part
-abbrev after : Option Bool → Bool → Bool → Bool
-after None blank listed = false
-after (Some ended) blank listed = cond ended blank listed
-
--- one part more
-one_more : (ended filled blank b l : Bool) → cond ended (blank && b) (cond filled l (blank && b)) ≡ after (ended_at ended filled blank) b l
-one_more true true true b l = refl
-one_more true true false b l = refl
-one_more true false true b l = refl
-one_more true false false b l = refl
-one_more false true true b l = refl
-one_more false true false b l = refl
-one_more false false true b l = refl
-one_more false false false b l = refl
+-- A list is right if all parts are blank once those that are filled are passed over.
+use Rattle.std.proofs.Common.{◌≡◌, ℕ, suc, ◌+◌, Bool, true, false, cond, List, [], ◌∷◌, drop, refl, arith}
+use Rattle.std.specs.List.{list_all, prefix_len}
+use Rattle.fitness.specs.Fitness.{listed_from}
 
 module _ {E : Type 0} (fills blanks : E → Bool) where
-  -- whether the rest of a list is right, the list having ended or not
-  abbrev pub left : Bool → List E → Bool
-  left ended xs = cond ended (blank_from fills blanks xs) (listed_from fills blanks xs)
+  one_more : (b : Bool) (k : ℕ) (x : E) (xs : List E) (l : Bool) → list_all blanks (drop k xs) ≡ l
+      → list_all blanks (drop (cond b (1 + k) 0) (x ∷ xs)) ≡ cond b l (list_all blanks (x ∷ xs))
+  one_more true k x xs l e = let s : 1 + k ≡ suc k = omega arith in rw (s, e)
+  one_more false k x xs l e = refl
 
-  pub left-more : (list : List E) (i : ℕ) (x : E) (ended : Bool) (r : Option Bool) → i < length list
-      → x ≡ get_or list i x → r ≡ ended_at ended (fills x) (blanks x)
-      → left ended (drop i list) ≡ after r (blank_from fills blanks (drop (i + 1) list)) (listed_from fills blanks (drop (i + 1) list))
-  left-more list i x ended r h is e =
-      at_drop_more (left ended) list i x h
-      ∙ ap (λ (y : E). left ended (y ∷ drop (i + 1) list)) (sym is)
-      ∙ one_more ended (fills x) (blanks x) (blank_from fills blanks (drop (i + 1) list)) (listed_from fills blanks (drop (i + 1) list))
-      ∙ ap (λ (o : Option Bool). after o (blank_from fills blanks (drop (i + 1) list)) (listed_from fills blanks (drop (i + 1) list))) (sym e)
-
-  pub left-all : (list : List E) (i : ℕ) (ended : Bool) → length list ≤ i → left ended (drop i list) ≡ true
-  left-all list i ended h = at_drop_all (left ended) list i h ∙ none ended
-    where
-      none : (e : Bool) → left e [] ≡ true
-      none true = refl
-      none false = refl
+  pub blank_after_filled : (xs : List E) → list_all blanks (drop (prefix_len fills xs) xs) ≡ listed_from fills blanks xs
+  blank_after_filled [] = refl
+  blank_after_filled (x ∷ xs) = one_more (fills x) (prefix_len fills xs) x xs (listed_from fills blanks xs) (blank_after_filled xs)

@@ -1,18 +1,20 @@
-ghost use Rattle.std.specs.Prelude.{◌≡◌, ℕ, ◌+◌, ◌*◌, ◌^◌, ◌≤◌, Bool, true, false, cond, length};
+ghost use Rattle.std.specs.Prelude.{◌≡◌, ℕ, ◌≤◌, Bool};
 ghost use Rattle.commands.specs.Sent.{values_of};
-ghost use Rattle.fitness.specs.Fitness.{byte_fits, all_characters, unused_clear, bits_used, filled_span, blank_span, time_of_day, minutes_of, filled_line, blank_line, listed, listed_from, ended_at, fit, text_fits, graphic_fits, days_fit, numbered};
+ghost use Rattle.fitness.specs.Fitness.{byte_fits, all_characters, unused_clear, bits_used, filled_span, blank_span, time_of_day, filled_line, blank_line, listed, listed_from, fit, text_fits, graphic_fits};
 
 use commands::command::Command;
+use commands::kind::RecordKind;
 use commands::lists::{Line, Span, Time};
 
 // Where a byte with a range of its own stands.
-#[derive(Clone, Copy)]
+#[derive(Clone, Copy, Debug, PartialEq, Eq)]
 pub enum Place {
     Conspicuity,
     Character,
 }
 
 // Beacons 0 to 5 in bits 0 to 2, annulus 0 to 2 in bits 3 and 4, the rest zero; characters 20h to 7Eh.
+// One decision over ranges and a guard serves both, as the rules ask.
 pub fn byte_fits(place: Place, byte: u8) -> bool
     ensures { result ≡ byte_fits place byte }
 {
@@ -26,57 +28,43 @@ pub fn byte_fits(place: Place, byte: u8) -> bool
 fn characters_fit(text: &[u8]) -> bool
     ensures { result ≡ all_characters text.now }
 {
-    for byte in text {
-        if !byte_fits(Place::Character, *byte) {
-            return false;
-        }
-    }
-    true
+    text.iter().all(|byte| byte_fits(Place::Character, *byte))
 }
 
 fn text_fits(number: u8, conspicuity: u8, text: &[u8]) -> bool
     ensures { result ≡ text_fits number conspicuity text.now }
 {
-    match (number, text.len()) {
-        (1..=255, 1..=128) => byte_fits(Place::Conspicuity, conspicuity) && characters_fit(text),
-        _ => false,
-    }
+    matches!((number, text.len()), (1..=255, 1..=128))
+        && byte_fits(Place::Conspicuity, conspicuity)
+        && characters_fit(text)
 }
 
 // Whether the byte at `place`, if it is the last of its row, has only bits of its columns.
+#[tactic(auto, unfolding(crate::specs::Fitness::bits_used))]
 fn bits_used(columns: u8, place: usize, byte: u8) -> bool
     requires { 1 ≤ columns }
     ensures { result ≡ bits_used columns place byte }
 {
-    let stride = (columns as usize + 7) / 8;
-    if place % stride == stride - 1 {
-        (byte as u16) >> ((columns - 1) % 8 + 1) == 0
-    } else {
-        true
-    }
+    let stride = usize::from(columns).div_ceil(8);
+    place % stride != stride - 1 || u16::from(byte) >> ((columns - 1) % 8 + 1) == 0
 }
 
 fn unused_bits_clear(columns: u8, picture: &[u8]) -> bool
     requires { 1 ≤ columns }
-    ensures { result ≡ unused_clear columns 0 picture.now }
+    ensures { result ≡ unused_clear columns picture.now }
 {
-    for (place, byte) in picture.iter().enumerate() {
-        if !bits_used(columns, place, *byte) {
-            return false;
-        }
-    }
-    true
+    picture
+        .iter()
+        .enumerate()
+        .all(|(place, byte)| bits_used(columns, place, *byte))
 }
 
 fn graphic_fits(number: u8, rows: u8, columns: u8, conspicuity: u8, picture: &[u8]) -> bool
     ensures { result ≡ graphic_fits number rows columns conspicuity picture.now }
 {
-    match (number, rows, columns) {
-        (1..=255, 1..=32, 1..=32) => {
-            byte_fits(Place::Conspicuity, conspicuity) && unused_bits_clear(columns, picture)
-        }
-        _ => false,
-    }
+    matches!((number, rows, columns), (1..=255, 1..=32, 1..=32))
+        && byte_fits(Place::Conspicuity, conspicuity)
+        && unused_bits_clear(columns, picture)
 }
 
 // A part of a list that is filled up to some place and zero from there.
@@ -88,6 +76,7 @@ pub trait Listed {
     fn is_filled(&self) -> bool
         ensures { result ≡ fills self.now };
 
+    // Each kind of part says what blank is: one body for all would need laws on `default` and `==`.
     fn is_blank(&self) -> bool
         ensures { result ≡ blanks self.now };
 }
@@ -102,7 +91,7 @@ impl Listed for Span {
     }
 
     fn is_blank(&self) -> bool {
-        self.frame == 0 && self.seconds == 0
+        *self == Span::default()
     }
 }
 
@@ -113,12 +102,6 @@ fn of_day(time: Time) -> bool
     time.hour <= 23 && time.minute <= 59
 }
 
-fn minutes(time: Time) -> u16
-    ensures { result ≡ minutes_of time }
-{
-    time.hour as u16 * 60 + time.minute as u16
-}
-
 impl Listed for Line {
     ghost fills = { filled_line };
 
@@ -127,35 +110,14 @@ impl Listed for Line {
     fn is_filled(&self) -> bool {
         match (self.kind, self.number, self.stop.hour, self.stop.minute) {
             (1..=2, 1..=255, 0..=23, 0..=59) | (1..=2, 1..=255, 24, 0) => {
-                of_day(self.start) && minutes(self.start) < minutes(self.stop)
+                of_day(self.start) && self.start.minute_of_day() < self.stop.minute_of_day()
             }
             _ => false,
         }
     }
 
     fn is_blank(&self) -> bool {
-        match (
-            self.kind,
-            self.number,
-            self.start.hour,
-            self.start.minute,
-            self.stop.hour,
-            self.stop.minute,
-        ) {
-            (0, 0, 0, 0, 0, 0) => true,
-            _ => false,
-        }
-    }
-}
-
-// Whether a list has ended at this part; none if the part is neither filled nor blank in its place.
-fn ended_at<E: Listed>(ended: bool, part: &E) -> Option<bool>
-    ensures { result ≡ ended_at ended (E.Listed.fills part.now) (E.Listed.blanks part.now) }
-{
-    match (ended, part.is_filled(), part.is_blank()) {
-        (false, true, _) => Some(false),
-        (_, _, true) => Some(true),
-        _ => None,
+        *self == Line::default()
     }
 }
 
@@ -163,14 +125,9 @@ fn ended_at<E: Listed>(ended: bool, part: &E) -> Option<bool>
 fn ends_well<E: Listed>(list: &[E]) -> bool
     ensures { result ≡ listed_from E.Listed.fills E.Listed.blanks list.now }
 {
-    let mut ended = false;
-    for part in list {
-        match ended_at(ended, part) {
-            Some(after) => ended = after,
-            None => return false,
-        }
-    }
-    true
+    list.iter()
+        .skip_while(|part| part.is_filled())
+        .all(|part| part.is_blank())
 }
 
 // Whether the first part is filled, and all are blank from the first on that is not.
@@ -189,28 +146,28 @@ pub fn fits(command: &Command<'_>) -> bool
 {
     match command {
         Command::SetText {
-            number,
+            header,
             conspicuity,
             text,
             ..
-        } => text_fits(*number, *conspicuity, text),
+        } => text_fits(header.number, *conspicuity, text),
         Command::SetGraphic {
-            number,
+            header,
             rows,
             columns,
             conspicuity,
             picture,
-            ..
-        } => { graphic_fits(*number, *rows, *columns, *conspicuity, picture) }
-        Command::SetMessage { number, spans, .. } => *number >= 1 && well_listed(spans),
+        } => graphic_fits(header.number, *rows, *columns, *conspicuity, picture),
+        Command::SetMessage { header, spans } => header.number >= 1 && well_listed(spans),
         Command::SetPlan {
-            number,
+            header,
             days,
             lines,
-            ..
-        } => { *number >= 1 && *days >= 1 && *days <= 127 && well_listed(lines) }
-        Command::StoredRecord { kind, number } => *kind <= 2 && *number >= 1,
-        Command::ListStored { kind } => *kind <= 3,
+        } => header.number >= 1 && matches!(days, 1..=127) && well_listed(lines),
+        Command::StoredRecord { kind, number } => {
+            RecordKind::try_from(*kind).is_ok() && *number >= 1
+        }
+        Command::ListStored { kind } => *kind == 0 || RecordKind::listed(*kind).is_some(),
         _ => true,
     }
 }

@@ -8,9 +8,8 @@ pub fn check_word_right(sent: &[u8]) -> bool
     ensures { result ≡ right_word sent.now }
 {
     match sent {
-        [0x0A..=0x0D, .., high, low] => {
-            let end = sent.len() - 2;
-            check_word(&sent[0..end]) == *high as u16 * 256 + *low as u16
+        [earlier @ .., high, low] if matches!(earlier, [0x0A..=0x0D, ..]) => {
+            check_word(earlier) == u16::from_be_bytes([*high, *low])
         }
         _ => true,
     }

@@ -4,7 +4,7 @@ use Rattle.std.proofs.lemmas.List.{get_or-set_same, get_or-set_other, get_or_pas
 use Rattle.std.proofs.lemmas.Bool.{cases_Bool, cases_eq, cases_lt, cond-true, cond-false}
 use Rattle.commands.specs.declared.command.Order.{Order}
 use Rattle.commands.specs.declared.command.Order.TheVariants.{Reset, Frame, Message, EnablePlan, DisablePlan, Power, Enable}
-use Rattle.records.proofs.Sharing.{shares-meaning}
+use Rattle.records.proofs.Sharing.{shares_meaning}
 use Rattle.records.specs.declared.plan.Plan.{Plan}
 use Rattle.records.specs.declared.store.Store.{Store}
 use Rattle.records.specs.Plans.{entry_at}
@@ -28,7 +28,7 @@ either false = refl
 -- two plans with an entry at one minute share it
 sharing-from : (p : Plan) (o : Option Plan) (w m : ℕ) → is_some (entry_at p w m) ≡ true → is_some (entry_of o w m) ≡ true → sharing p o ≡ true
 sharing-from p None w m a b = absurd (no b)
-sharing-from p (Some q) w m a b = (shares-meaning p q).1 (w, (m, (a, b)))
+sharing-from p (Some q) w m a b = (shares_meaning p q _ refl).1 (w, (m, (a, b)))
 
 module _ (s : Store) (w m : ℕ) where
   crosses-from : (p : Plan) (x : Option ℕ) → is_some (entry_at p w m) ≡ true → runs_at s w m x ≡ true → crosses s p x ≡ true

@@ -1,5 +1,6 @@
 pub mod Enabling
 pub mod Keeping
+pub mod Looking
 pub mod Only
 pub mod Rising
 pub mod Slots

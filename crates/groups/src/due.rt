@@ -91,7 +91,7 @@ impl GroupRecord {
             None => first_due(
                 &self.plans,
                 store,
-                clock.weekday().number(),
+                u8::from(clock.weekday()),
                 clock.minute_of_day(),
                 clock.second_of_day(),
             ),

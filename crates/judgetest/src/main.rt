@@ -5,11 +5,16 @@
 #![tactic(auto)]
 
 use judging::effects::{error_after, session_after};
-use judging::verdict::judge;
+use judging::verdict::Judge;
 use records::any_record::AnyRecord;
 use records::store::Store;
-use session::Session;
+use session::{Offsets, Session};
 use std::io;
+
+const OFFSETS: Offsets = Offsets {
+    seed: 0x05,
+    password: 0x0100,
+};
 
 #[derive(Drop)]
 struct Desk {
@@ -17,30 +22,27 @@ struct Desk {
     error: u8,
 }
 
-fn name(session: Session) -> &'static str {
-    match session {
-        Session::Closed => "closed",
-        Session::Seeded(_) => "seeded",
-        Session::Open(_) => "open",
-    }
-}
-
 fn say(rt: &HostRuntime, desk: &mut Desk, store: &mut Store, message: &[u8]) -> io::Result<()> {
-    let verdict = judge(desk.session, 0x05, 0x0100, store, message);
+    let judge = Judge {
+        session: desk.session,
+        offsets: OFFSETS,
+        store,
+    };
+    let verdict = judge.judge(message);
     desk.session = session_after(desk.session, 0x10, &verdict);
     desk.error = error_after(desk.error, &verdict);
-    let place = name(desk.session);
+    let session = desk.session;
     let error = desk.error;
     match verdict {
         Ok(command) => {
             if let Some(kept) = AnyRecord::of(&command) {
                 store.put(kept);
             }
-            println!(rt; "accepted, {place}, error {error}")
+            println!(rt; "accepted, {session}, error {error}")
         }
         Err(rejection) => {
-            let number = rejection.code();
-            println!(rt; "rejected {number}, {place}, error {error}")
+            let number = u8::from(rejection);
+            println!(rt; "rejected {number}, {session}, error {error}")
         }
     }
 }

@@ -2,9 +2,7 @@
 use Rattle.std.proofs.Common.{◌≡◌, Bool, true, false, cond, List, [], ◌∷◌, sym, refl, ap, subst}
 use Rattle.commands.specs.Sent.{Sent}
 use Rattle.judging.specs.declared.rejection.Rejection.{Rejection}
-use Rattle.judging.specs.declared.rejection.Rejection.TheVariants.{UnknownCode, WrongLength, NotOpen, BadPassword, WrongCheckWord, Unfit, NotStored, Overlap}
-use Rattle.judging.specs.Judgements.{Judgement, accepted, rejected, decided, NoneOf, FirstOf, Grounded}
-use Rattle.judging.specs.Rejections.{in_order}
+use Rattle.judging.specs.Judgements.{Judgement, accepted, rejected, decided, Grounded}
 
 module _ (stands : Rejection → Bool) (said : Sent) where
   -- a ground that does not stand may be put in front
@@ -27,31 +25,3 @@ module _ (stands : Rejection → Bool) (said : Sent) where
 
   pub grounded-at : (order : List Rejection) (j : Judgement) → j ≡ decided stands said order → Grounded stands said order j
   grounded-at order j e = subst (λ (i : Judgement). Grounded stands said order i) (sym e) (grounded order)
-
--- an accepted message is taken for what it says
-pub accepted-says : (stands : Rejection → Bool) (said v : Sent) (order : List Rejection)
-    → Grounded stands said order (accepted v) → v ≡ said
-unfolding Grounded
-accepted-says stands said v order g = g.0
-
--- and no ground stands against it
-pub accepted-clear : (stands : Rejection → Bool) (said v : Sent) → Grounded stands said in_order (accepted v)
-    → (r : Rejection) → stands r ≡ false
-unfolding Grounded
-accepted-clear stands said v g r = clear g.1 r
-  where
-    clear : NoneOf stands in_order → (r : Rejection) → stands r ≡ false
-    clear n UnknownCode = n.0
-    clear n WrongLength = n.1.0
-    clear n NotOpen = n.1.1.0
-    clear n BadPassword = n.1.1.1.0
-    clear n WrongCheckWord = n.1.1.1.1.0
-    clear n Unfit = n.1.1.1.1.1.0
-    clear n NotStored = n.1.1.1.1.1.1.0
-    clear n Overlap = n.1.1.1.1.1.1.1.0
-
--- a rejection names the first ground
-pub rejected-first : (stands : Rejection → Bool) (said : Sent) (order : List Rejection) (r : Rejection)
-    → Grounded stands said order (rejected r) → FirstOf stands order r
-unfolding Grounded
-rejected-first stands said order r g = g

@@ -1,2 +1,3 @@
-pub mod Deciding
-pub mod Reading
+mod Deciding
+mod Ordering
+mod Reading

@@ -1,5 +1,6 @@
 -- The verdict on a message: the first ground in the order that stands against it, or the command that it is.
 use Rattle.std.specs.Prelude.{◌≡◌, ℕ, Bool, true, false, cond, not, ◌&&◌, ◌||◌, List, [], ◌∷◌, ◌++◌, Ok, Err, Result}
+use Rattle.session.specs.declared.Offsets.{Offsets}
 use Rattle.session.specs.declared.Session.{Session}
 use Rattle.session.specs.Sessions.{is_open}
 use Rattle.commands.specs.declared.command.Command.{Command}
@@ -22,24 +23,23 @@ judgement (Ok c) = accepted (values_of c)
 judgement (Err e) = rejected e
 
 -- Which grounds stand against a message, of a session with its offsets and a store, that says this.
-abbrev pub against : Session → ℕ → ℕ → Store → List ℕ → Sent → Rejection → Bool
-against s seed_offset password_offset store m said UnknownCode = ordering m || code_unknown (asked said)
-against s seed_offset password_offset store m said WrongLength = length_wrong (asked said)
-against s seed_offset password_offset store m said NotOpen = needs_open (asked said) && not (is_open s)
-against s seed_offset password_offset store m said BadPassword = not (password_right s seed_offset password_offset (asked said))
-against s seed_offset password_offset store m said WrongCheckWord = not (right_word m)
-against s seed_offset password_offset store m said Unfit = not (fit said && time_exists (asked said))
-against s seed_offset password_offset store m said NotStored = not (record_kept store (asked said))
-against s seed_offset password_offset store m said Overlap = overlapping (record_of said)
+abbrev pub against : Session → Offsets → Store → List ℕ → Sent → Rejection → Bool
+against s offsets store m said UnknownCode = ordering m || code_unknown (asked said)
+against s offsets store m said WrongLength = length_wrong (asked said)
+against s offsets store m said NotOpen = needs_open (asked said) && not (is_open s)
+against s offsets store m said BadPassword = not (password_right s offsets (asked said))
+against s offsets store m said WrongCheckWord = not (right_word m)
+against s offsets store m said Unfit = not (fit said && time_exists (asked said))
+against s offsets store m said NotStored = not (record_kept store (asked said))
+against s offsets store m said Overlap = overlapping (record_of said)
 
 -- The first ground of several that stands against what was said decides; if none does, it is accepted.
 abbrev pub decided : (Rejection → Bool) → Sent → List Rejection → Judgement
 decided stands said [] = accepted said
 decided stands said (r ∷ rs) = cond (stands r) (rejected r) (decided stands said rs)
 
-unfoldable pub judged : Session → ℕ → ℕ → Store → List ℕ → Judgement
-judged s seed_offset password_offset store m =
-    decided (against s seed_offset password_offset store m (parsed m)) (parsed m) in_order
+unfoldable pub judged : Session → Offsets → Store → List ℕ → Judgement
+judged s offsets store m = decided (against s offsets store m (parsed m)) (parsed m) in_order
 
 -- none of several grounds stands
 abbrev pub NoneOf : (Rejection → Bool) → List Rejection → Type 0

@@ -35,13 +35,13 @@ pub fn session_after(
     }
 }
 
-// The application error code after a verdict.
+// The application error code after a verdict, a byte as replies tell it: what stood before may be any.
 pub fn error_after(before: u8, verdict: &Result<Command<'_>, Rejection>) -> u8
     ensures { result ≡ error_after before (judgement verdict.now) }
 {
     match verdict {
         Ok(Command::StartSession) => 0,
         Ok(_) => before,
-        Err(rejection) => rejection.code(),
+        Err(rejection) => u8::from(*rejection),
     }
 }

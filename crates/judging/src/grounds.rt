@@ -1,62 +1,32 @@
-ghost use Rattle.std.specs.Prelude.{◌≡◌, ℕ, ◌&&◌};
+ghost use Rattle.std.specs.Prelude.{◌≡◌, ◌&&◌};
 ghost use Rattle.commands.specs.Sent.{values_of};
 ghost use Rattle.fitness.specs.Fitness.{fit};
 ghost use Rattle.records.specs.AnyRecords.{record_of};
-ghost use Rattle.judging.specs.Conditions.{asked, needs_open, order_code, ordering, password_right, time_exists, record_kept, overlapping};
+ghost use Rattle.judging.specs.Conditions.{asked, needs_open, ordering, password_right, time_exists, record_kept, overlapping};
 
-use calendar::DateTime;
-use commands::command::Command;
+use crate::verdict::Judge;
+use commands::command::{Command, Order};
+use commands::kind::RecordKind;
 use fitness::judging::fits;
-use records::any_record::RecordKind;
 use records::plan::Plan;
-use records::store::Store;
-use session::{Event, Session};
-
-fn order_code(code: u8) -> bool
-    ensures { result ≡ order_code code }
-{
-    match code {
-        0x08 | 0x0E..=0x11 | 0x15 | 0x16 => true,
-        _ => false,
-    }
-}
+use session::Event;
 
 // Whether the message has the code of a group order; those are not known yet.
+#[tactic(auto, using(crate::proofs::Ordering::read_as_order))]
 pub(crate) fn is_order(message: &[u8]) -> bool
     ensures { result ≡ ordering message.now }
 {
-    match message {
-        [code, ..] => order_code(*code),
-        [] => false,
-    }
+    matches!(message, [code, ..] if Order::try_from(*code).is_ok())
 }
 
 // Whether the command is for an open session alone.
 pub(crate) fn needs_open(command: &Command<'_>) -> bool
     ensures { result ≡ needs_open (asked (values_of command.now)) }
 {
-    match command {
-        Command::StartSession | Command::Password(_) | Command::Heartbeat => false,
-        _ => true,
-    }
-}
-
-// Whether a password, if the command is one, opens the session.
-pub(crate) fn password_right(
-    command: &Command<'_>,
-    session: Session,
-    seed_offset: u8,
-    password_offset: u16,
-) -> bool
-    ensures { result ≡ password_right session seed_offset password_offset (asked (values_of command.now)) }
-{
-    match command {
-        Command::Password(word) => match session.judge(*word, seed_offset, password_offset) {
-            Some(Event::RightWord) => true,
-            _ => false,
-        },
-        _ => true,
-    }
+    !matches!(
+        command,
+        Command::StartSession | Command::Password(_) | Command::Heartbeat
+    )
 }
 
 // Whether the values are in range, and a time to be set exists.
@@ -64,38 +34,8 @@ pub(crate) fn values_fit(command: &Command<'_>) -> bool
     ensures { result ≡ fit (values_of command.now) && time_exists (asked (values_of command.now)) }
 {
     match *command {
-        Command::SetTime {
-            day,
-            month,
-            year,
-            hours,
-            minutes,
-            seconds,
-        } => {
-            let time = DateTime {
-                day,
-                month,
-                year,
-                hour: hours,
-                minute: minutes,
-                second: seconds,
-            };
-            time.judge().is_ok()
-        }
+        Command::SetTime(time) => time.judge().is_ok(),
         _ => fits(command),
-    }
-}
-
-// Whether a record, if the command asks for one, is stored.
-pub(crate) fn record_stored(command: &Command<'_>, store: &Store) -> bool
-    ensures { result ≡ record_kept store.now (asked (values_of command.now)) }
-{
-    match *command {
-        Command::StoredRecord { kind, number } => match RecordKind::requested(kind) {
-            Some(kind) => store.record_at(kind, number).is_some(),
-            None => false,
-        },
-        _ => true,
     }
 }
 
@@ -105,12 +45,37 @@ pub(crate) fn entries_overlap(command: &Command<'_>) -> bool
 {
     match *command {
         Command::SetPlan {
-            number,
-            revision,
+            header,
             days,
             lines,
-            check,
-        } => { Plan::new(number, revision, days, lines, check).overlaps_itself() }
+        } => Plan::new(header, days, lines).overlaps_itself(),
         _ => false,
+    }
+}
+
+impl Judge<'_> {
+    // Whether a password, if the command is one, opens the session.
+    pub(crate) fn password_right(&self, command: &Command<'_>) -> bool
+        ensures { result ≡ password_right self.now.session self.now.offsets (asked (values_of command.now)) }
+    {
+        match *command {
+            Command::Password(word) => matches!(
+                self.session.judge(word, self.offsets),
+                Some(Event::RightWord)
+            ),
+            _ => true,
+        }
+    }
+
+    // Whether a record, if the command asks for one, is stored.
+    pub(crate) fn record_stored(&self, command: &Command<'_>) -> bool
+        ensures { result ≡ record_kept self.now.store.now (asked (values_of command.now)) }
+    {
+        match *command {
+            Command::StoredRecord { kind, number } => RecordKind::try_from(kind).is_ok_and(
+                |kind| self.store.record_at(kind, number).is_some(),
+            ),
+            _ => true,
+        }
     }
 }

@@ -1,11 +1,8 @@
 pub mod Back
-pub mod Days
+pub mod Filled
 pub mod Keeping
 pub mod Laying
+pub mod Lines
 pub mod Listing
-pub mod Looking
-pub mod Parts
 pub mod Rising
 pub mod Sharing
-pub mod Six
-pub mod Storing

@@ -1,13 +1,12 @@
 -- Messages: the frame that is due at an age, and the command that a message came by.
-use Rattle.std.specs.Prelude.{◌≡◌, ℕ, ◌+◌, ◌-◌, ◌%◌, cond, List, [], ◌∷◌, Some, None, Option, ◌==◌, nat_lt}
+use Rattle.std.specs.Prelude.{◌≡◌, ℕ, ◌-◌, ◌%◌, cond, List, [], ◌∷◌, Some, None, Option, ◌==◌, nat_lt, sum_by}
 use Rattle.std.specs.List.{flat_map}
 use Rattle.commands.specs.declared.lists.Span.{Span}
 use Rattle.records.specs.declared.message.Message.{Message}
 use Rattle.records.specs.Writing.{command_of}
 
 abbrev pub total_of : List Span → ℕ
-total_of [] = 0
-total_of (s ∷ ss) = s.seconds + total_of ss
+total_of spans = sum_by (λ s. s.seconds) spans
 
 -- the frame whose span holds a second, counted from the first span's start
 abbrev pub held_at : List Span → ℕ → Option ℕ
@@ -34,4 +33,4 @@ abbrev pub pair_of : Span → List ℕ
 pair_of s = s.frame ∷ s.seconds % 256 ∷ []
 
 unfoldable pub message_bytes : Message → List ℕ
-message_bytes m = command_of (0x0C ∷ m.number ∷ m.revision ∷ []) (flat_map pair_of m.spans) m.check
+message_bytes m = command_of (0x0C ∷ m.header.number ∷ m.header.revision ∷ []) (flat_map pair_of m.spans) m.header.check

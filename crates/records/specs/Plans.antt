@@ -1,8 +1,10 @@
 -- Plans: which entry covers a minute, what two plans share, and the command that a plan came by.
-use Rattle.std.specs.Prelude.{◌≡◌, ℕ, zero, suc, ◌/◌, ◌%◌, ◌^◌, ◌<◌, min, max, Bool, true, false, cond, ◌&&◌, List, [], ◌∷◌, map, is_some, Some, None, Option, ◌==◌, nat_le, nat_lt, slice_index_or}
-use Rattle.std.specs.List.{flat_map}
+use Rattle.std.specs.Prelude.{◌≡◌, ℕ, ◌/◌, ◌%◌, ◌^◌, ◌<◌, min, max, Bool, true, false, cond, ◌&&◌, ◌||◌, List, [], ◌∷◌, map, is_some, Some, None, Option, ◌==◌, nat_le, nat_lt, slice_index_or}
+use Rattle.std.specs.List.{flat_map, find, list_any, range_with_len}
+use Rattle.std.specs.Option.{option_to_list}
+use Rattle.commands.specs.declared.command.Header.{Header}
 use Rattle.commands.specs.declared.lists.Line.{Line}
-use Rattle.fitness.specs.Fitness.{minutes_of}
+use Rattle.commands.specs.Lists.{minutes_of}
 use Rattle.records.specs.declared.plan.Entry.{Entry}
 use Rattle.records.specs.declared.plan.Plan.{Plan}
 use Rattle.records.specs.declared.plan.Shows.TheVariants.{Frame, Message}
@@ -15,8 +17,8 @@ entry_of l =
     (cond (l.kind == 2) (Some (record { shows = Message l.number; start = minutes_of l.start; stop = minutes_of l.stop }))
     None)
 
-unfoldable pub plan_of : ℕ → ℕ → ℕ → List Line → ℕ → Plan
-plan_of n r days lines check = record { number = n; revision = r; days = days; entries = map entry_of lines; check = check }
+unfoldable pub plan_of : Header → ℕ → List Line → Plan
+plan_of h days lines = record { header = h; days = days; entries = map entry_of lines }
 
 -- the stop is outside
 abbrev pub covers : Entry → ℕ → Bool
@@ -30,10 +32,13 @@ abbrev pub covered : Option Entry → ℕ → Bool
 covered None minute = false
 covered (Some e) minute = covers e minute
 
+-- the entries of the lines that are filled
+abbrev pub filled : List (Option Entry) → List Entry
+filled xs = flat_map option_to_list xs
+
 -- the first entry that covers a minute
 abbrev pub covering : List (Option Entry) → ℕ → Option Entry
-covering [] minute = None
-covering (x ∷ xs) minute = cond (covered x minute) x (covering xs minute)
+covering xs minute = find (λ e. covers e minute) (filled xs)
 
 unfoldable pub entry_at : Plan → ℕ → ℕ → Option Entry
 entry_at p weekday minute = cond (runs_on p.days weekday) (covering p.entries minute) None
@@ -42,37 +47,30 @@ entry_at p weekday minute = cond (runs_on p.days weekday) (covering p.entries mi
 abbrev pub meets : Entry → Entry → Bool
 meets a b = nat_lt (max a.start b.start) (min a.stop b.stop)
 
-abbrev pub meet : Option Entry → Option Entry → Bool
-meet None y = false
-meet (Some a) None = false
-meet (Some a) (Some b) = meets a b
-
 -- an entry shares a minute with one of several
-abbrev pub meets_any : Option Entry → List (Option Entry) → Bool
-meets_any x [] = false
-meets_any x (y ∷ ys) = cond (meet x y) true (meets_any x ys)
+abbrev pub meets_any : Entry → List (Option Entry) → Bool
+meets_any e xs = list_any (λ x. meets e x) (filled xs)
 
 -- two entries of a list share a minute
 abbrev pub clashing : List (Option Entry) → Bool
 clashing [] = false
-clashing (x ∷ xs) = cond (meets_any x xs) true (clashing xs)
+clashing (None ∷ xs) = clashing xs
+clashing (Some e ∷ xs) = meets_any e xs || clashing xs
 
 -- an entry of one list shares a minute with one of another
 abbrev pub any_meet : List (Option Entry) → List (Option Entry) → Bool
-any_meet others [] = false
-any_meet others (x ∷ xs) = cond (meets_any x others) true (any_meet others xs)
+any_meet others xs = list_any (λ x. meets_any x others) (filled xs)
 
 abbrev pub both_run : ℕ → ℕ → ℕ → Bool
 both_run days others weekday = runs_on days weekday && runs_on others weekday
 
--- both run on one of the first n weekdays
-unfoldable pub common_day : ℕ → ℕ → ℕ → Bool
-common_day days others zero = false
-common_day days others (suc n) = cond (both_run days others n) true (common_day days others n)
+-- both run on some weekday
+unfoldable pub common_day : ℕ → ℕ → Bool
+common_day days others = list_any (λ weekday. both_run days others weekday) (range_with_len 0 7)
 
 -- two plans share a minute of a weekday
 unfoldable pub shares : Plan → Plan → Bool
-shares p q = common_day p.days q.days 7 && any_meet q.entries p.entries
+shares p q = common_day p.days q.days && any_meet q.entries p.entries
 
 -- two entries of a list, at different places, cover one minute
 abbrev pub Overlapping : List (Option Entry) → Type 0
@@ -91,4 +89,4 @@ line_of (Some e) = elim e.shows [
 ]
 
 unfoldable pub plan_bytes : Plan → List ℕ
-plan_bytes p = command_of (0x0D ∷ p.number ∷ p.revision ∷ p.days ∷ []) (flat_map line_of p.entries) p.check
+plan_bytes p = command_of (0x0D ∷ p.header.number ∷ p.header.revision ∷ p.days ∷ []) (flat_map line_of p.entries) p.header.check

@@ -1,7 +1,13 @@
 -- A numbered store: the record of number n stands at slot n - 1.
 use Rattle.std.specs.Prelude.{◌≡◌, ℕ, ◌+◌, ◌-◌, ◌*◌, ◌<◌, Bool, true, false, cond, List, [], ◌∷◌, ◌++◌, map, length, drop, is_some, Some, None, Option, ◌==◌, ◌≢◌, nat_le, slice_index_or, slice_set}
 use Rattle.std.specs.List.{range_with_len, flat_map}
+use Rattle.std.specs.Option.{option_to_list}
+use Rattle.commands.specs.declared.command.Header.{Header}
 use Rattle.records.specs.Writing.{word_bytes}
+
+-- the number and the check word of a record
+abbrev pub entry_bytes : Header → List ℕ
+entry_bytes h = h.number ∷ word_bytes h.check
 
 module _ {R : Type 0} where
   abbrev pub has_slot : List (Option R) → ℕ → Bool
@@ -19,32 +25,29 @@ module _ {R : Type 0} where
 
   -- the records that are kept, slot by slot
   abbrev pub kept : List (Option R) → List R
-  kept [] = []
-  kept (x ∷ xs) = elim x [ None ↦ kept xs | Some r ↦ r ∷ kept xs ]
+  kept xs = flat_map option_to_list xs
 
-  module _ (number : R → ℕ) where
+  module _ (header : R → Header) where
     -- each record stands under its own number
     abbrev pub Numbered : List (Option R) → Type 0
-    Numbered xs = (k : ℕ) (r : R) → slice_index_or xs k None ≡ Some r → number r ≡ k + 1
+    Numbered xs = (k : ℕ) (r : R) → slice_index_or xs k None ≡ Some r → (header r).number ≡ k + 1
 
     -- numbers that rise, all above n
     abbrev pub RisingFrom : ℕ → List R → Type 0
     RisingFrom n [] = Unit {0}
-    RisingFrom n (r ∷ rs) = (n < number r) × RisingFrom (number r) rs
+    RisingFrom n (r ∷ rs) = (n < (header r).number) × RisingFrom (header r).number rs
 
     -- whether a number is among those of the records
     abbrev pub among : ℕ → List R → Bool
     among n [] = false
-    among n (r ∷ rs) = cond (number r == n) true (among n rs)
+    among n (r ∷ rs) = cond ((header r).number == n) true (among n rs)
 
     -- the kept records rise by number, and a number is among theirs exactly if it is stored
     abbrev pub Rising : List (Option R) → Type 0
     Rising xs = RisingFrom 0 (kept xs) × ((n : ℕ) → among n (kept xs) ≡ is_some (slot_of xs n))
 
-  module _ (number check : R → ℕ) where
-    -- number and check word of a record
     abbrev pub entry_of : R → List ℕ
-    entry_of r = number r ∷ word_bytes (check r)
+    entry_of r = entry_bytes (header r)
 
     -- the entries of all that is kept
     unfoldable pub listing : List (Option R) → List ℕ

@@ -1,47 +1,13 @@
 ghost use Rattle.std.specs.Prelude.{◌≡◌, ℕ, true, List};
 ghost use Rattle.commands.specs.Sent.{values_of, parsed};
 ghost use Rattle.fitness.specs.Fitness.{fit};
-ghost use Rattle.records.specs.AnyRecords.{record_of, bytes_of, GivesBack, Bytes, requested_kind, listed_kind};
+ghost use Rattle.records.specs.AnyRecords.{record_of, bytes_of, GivesBack, Bytes};
 ghost use Rattle.records.specs.Writing.{room_for, laid};
 
 use crate::frame::Frame;
 use crate::message::Message;
 use crate::plan::Plan;
 use commands::command::Command;
-
-// The kinds of record that the store keeps.
-#[derive(Clone, Copy)]
-pub enum RecordKind {
-    Frame,
-    Message,
-    Plan,
-}
-
-impl RecordKind {
-    // The kind that a request for a stored record names.
-    pub fn requested(kind: u8) -> Option<RecordKind>
-        ensures { result ≡ requested_kind kind }
-    {
-        match kind {
-            0 => Some(RecordKind::Frame),
-            1 => Some(RecordKind::Message),
-            2 => Some(RecordKind::Plan),
-            _ => None,
-        }
-    }
-
-    // The kind that a request for a listing names; 0 asks for the summary of all.
-    pub fn listed(kind: u8) -> Option<RecordKind>
-        ensures { result ≡ listed_kind kind }
-    {
-        match kind {
-            1 => Some(RecordKind::Frame),
-            2 => Some(RecordKind::Message),
-            3 => Some(RecordKind::Plan),
-            _ => None,
-        }
-    }
-}
 
 // A record of any kind.
 #[derive(Clone, Copy)]
@@ -56,69 +22,39 @@ fn set_by(command: &Command<'_>) -> Option<AnyRecord>
 {
     match *command {
         Command::SetText {
-            number,
-            revision,
+            header,
             font,
             colour,
             conspicuity,
             text,
-            check,
         } => {
-            Some(AnyRecord::Frame(Frame::text(
-                number,
-                revision,
-                font,
-                colour,
-                conspicuity,
-                text,
-                check,
-            )))
+            let frame = Frame::text(header, font, colour, conspicuity, text);
+            Some(AnyRecord::Frame(frame))
         }
         Command::SetGraphic {
-            number,
-            revision,
+            header,
             rows,
             columns,
             conspicuity,
             picture,
-            check,
         } => {
-            Some(AnyRecord::Frame(Frame::graphic(
-                number,
-                revision,
-                rows,
-                columns,
-                conspicuity,
-                picture,
-                check,
-            )))
+            let frame = Frame::graphic(header, rows, columns, conspicuity, picture);
+            Some(AnyRecord::Frame(frame))
         }
-        Command::SetMessage {
-            number,
-            revision,
-            spans,
-            check,
-        } => {
-            Some(AnyRecord::Message(Message {
-                number,
-                revision,
-                spans,
-                check,
-            }))
+        Command::SetMessage { header, spans } => {
+            Some(AnyRecord::Message(Message { header, spans }))
         }
         Command::SetPlan {
-            number,
-            revision,
+            header,
             days,
             lines,
-            check,
-        } => { Some(AnyRecord::Plan(Plan::new(number, revision, days, lines, check))) }
+        } => Some(AnyRecord::Plan(Plan::new(header, days, lines))),
         _ => None,
     }
 }
 
 impl AnyRecord {
-    // The record that a storing command sets; other commands set none.
+    // The record that a storing command sets; other commands set none. No `TryFrom`, since that is no error.
     pub fn of(command: &Command<'_>) -> Option<AnyRecord>
         ensures value { result ≡ record_of (values_of command.now) }
         ensures back { (m : List ℕ) → Bytes m → parsed m ≡ values_of command.now → fit (values_of command.now) ≡ true → GivesBack m result }

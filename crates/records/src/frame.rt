@@ -1,94 +1,57 @@
-ghost use Rattle.std.specs.Prelude.{◌≡◌, ℕ, ◌-◌, ◌≤◌, ◌++◌, length, take, replicate};
-ghost use Rattle.records.specs.Frames.{text_frame, graphic_frame, pictured, shown, shape_shown, frame_bytes, frame_face};
+ghost use Rattle.std.specs.Prelude.{◌≡◌, ℕ, ◌≤◌, length};
+ghost use Rattle.records.specs.Frames.{text_frame, graphic_frame, shape_shown, frame_bytes};
 ghost use Rattle.records.specs.Writing.{room_for, laid};
-ghost use Rattle.rack.specs.Face.{shape_of};
 
-use crate::writing::put_command;
+use crate::slots::Record;
+use crate::writing::lay_command;
+use commands::command::Header;
+use octets::Octets;
 use rack::look::{Kind, Look, Shape};
 
-// A text or a picture, with the look that it is shown in.
+// A text or a picture of up to 128 bytes, with the look that it is shown in.
 #[derive(Clone, Copy)]
 pub struct Frame {
-    pub number: u8,
-    pub revision: u8,
+    pub header: Header,
     pub look: Look,
-    pub length: u8,
-    pub picture: [u8; 128],
-    pub check: u16,
+    pub picture: Octets<128>,
 }
 
-// The first `count` of `bytes`, or all where there are no more.
-fn first(bytes: &[u8], count: usize) -> &[u8]
-    ensures value { result.now ≡ take count bytes.now }
-    ensures few { length result.now ≤ count }
-{
-    if count < bytes.len() {
-        &bytes[0..count]
-    } else {
-        bytes
+impl Record for Frame {
+    ghost header = { λ f. f.header };
+
+    fn header(&self) -> Header {
+        self.header
     }
-}
-
-// The bytes, and zeros after them.
-fn padded(bytes: &[u8]) -> [u8; 128]
-    requires { length bytes.now ≤ 128 }
-    ensures { result ≡ bytes.now ++ replicate (128 - length bytes.now) 0 }
-{
-    let mut picture = [0; 128];
-    let n = bytes.len();
-    picture[0..n].copy_from_slice(bytes);
-    picture
 }
 
 impl Frame {
     // A text has one row, its count as columns and its characters as picture.
-    pub fn text(
-        number: u8,
-        revision: u8,
-        font: u8,
-        colour: u8,
-        conspicuity: u8,
-        text: &[u8],
-        check: u16,
-    ) -> Frame
-        ensures { result ≡ text_frame number revision font colour conspicuity text.now check }
+    #[tactic(auto, unfolding(crate::specs::Frames::text_frame))]
+    pub fn text(header: Header, font: u8, colour: u8, conspicuity: u8, text: &[u8]) -> Frame
+        ensures { result ≡ text_frame header font colour conspicuity text.now }
     {
-        let text = first(text, 128);
-        let length = text.len() as u8;
+        let picture = Octets::cut(text);
         Frame {
-            number,
-            revision,
+            header,
             look: Look {
                 kind: Kind::Text,
                 rows: 1,
-                columns: length,
+                columns: picture.as_slice().len() as u8,
                 font,
                 colour,
                 conspicuity,
             },
-            length,
-            picture: padded(text),
-            check,
+            picture,
         }
     }
 
     // A graphic has font and colour 0.
-    pub fn graphic(
-        number: u8,
-        revision: u8,
-        rows: u8,
-        columns: u8,
-        conspicuity: u8,
-        picture: &[u8],
-        check: u16,
-    ) -> Frame
-        ensures { result ≡ graphic_frame number revision rows columns conspicuity picture.now check }
+    #[tactic(auto, unfolding(crate::specs::Frames::graphic_frame))]
+    pub fn graphic(header: Header, rows: u8, columns: u8, conspicuity: u8, picture: &[u8]) -> Frame
+        ensures { result ≡ graphic_frame header rows columns conspicuity picture.now }
     {
-        let picture = first(picture, 128);
-        let length = picture.len() as u8;
         Frame {
-            number,
-            revision,
+            header,
             look: Look {
                 kind: Kind::Graphic,
                 rows,
@@ -97,17 +60,16 @@ impl Frame {
                 colour: 0,
                 conspicuity,
             },
-            length,
-            picture: padded(picture),
-            check,
+            picture: Octets::cut(picture),
         }
     }
 
     // The bytes that a sign is given.
     pub fn picture(&self) -> &[u8]
-        ensures { result.now ≡ shown self.now }
+        ensures value { result.now ≡ self.now.picture }
+        ensures few { length result.now ≤ 128 }
     {
-        first(&self.picture, self.length as usize)
+        self.picture.as_slice()
     }
 
     // What decides whether a sign takes the frame.
@@ -118,34 +80,32 @@ impl Frame {
     }
 
     // Writes the command that sets the frame, if there is room for it.
+    #[tactic(auto, unfolding(crate::specs::Frames::frame_bytes))]
     pub fn write_command(&self, out: &mut [u8]) -> Option<usize>
         ensures count { result ≡ room_for (frame_bytes self.now) out.old }
         ensures bytes { out.new ≡ laid (frame_bytes self.now) out.old }
     {
-        let look = self.look;
-        match look.kind {
+        let Header {
+            number,
+            revision,
+            check,
+        } = self.header;
+        let Look {
+            kind,
+            rows,
+            columns,
+            font,
+            colour,
+            conspicuity,
+        } = self.look;
+        match kind {
             Kind::Text => {
-                let head = [
-                    0x0A,
-                    self.number,
-                    self.revision,
-                    look.font,
-                    look.colour,
-                    look.conspicuity,
-                    look.columns,
-                ];
-                put_command(out, &head, self.picture(), self.check)
+                let head = [0x0A, number, revision, font, colour, conspicuity, columns];
+                lay_command(&head, self.picture(), check, out)
             }
             Kind::Graphic => {
-                let head = [
-                    0x0B,
-                    self.number,
-                    self.revision,
-                    look.rows,
-                    look.columns,
-                    look.conspicuity,
-                ];
-                put_command(out, &head, self.picture(), self.check)
+                let head = [0x0B, number, revision, rows, columns, conspicuity];
+                lay_command(&head, self.picture(), check, out)
             }
         }
     }

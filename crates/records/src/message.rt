@@ -1,29 +1,33 @@
-ghost use Rattle.std.specs.Prelude.{◌≡◌, ℕ};
+ghost use Rattle.std.specs.Prelude.{◌≡◌, ℕ, ◌≤◌};
 ghost use Rattle.std.specs.List.{flat_map};
 ghost use Rattle.records.specs.Messages.{total_of, held_at, frame_at, pair_of, message_bytes, Example};
 ghost use Rattle.records.specs.Writing.{room_for, laid};
 
-use crate::writing::{put, put_command};
+use crate::slots::Record;
+use crate::writing::lay_command;
+use commands::command::Header;
 use commands::lists::Span;
+use octets::Octets;
 
 // Frames that follow one another, each for its seconds, over and over.
-#[derive(Clone, Copy)]
+#[derive(Clone, Copy, Debug, PartialEq, Eq)]
 pub struct Message {
-    pub number: u8,
-    pub revision: u8,
+    pub header: Header,
     pub spans: [Span; 6],
-    pub check: u16,
+}
+
+fn seconds(span: &Span) -> u32
+    ensures value { result ≡ span.now.seconds }
+    ensures most { result ≤ 65535 }
+{
+    u32::from(span.seconds)
 }
 
 // The seconds of all spans together.
 fn total(spans: &[Span; 6]) -> u32
     ensures { result ≡ total_of spans.now }
 {
-    let mut sum = 0;
-    for span in spans {
-        sum += span.seconds as u32;
-    }
-    sum
+    spans.iter().map(seconds).sum()
 }
 
 // The frame whose span holds a second, counted from the first span's start.
@@ -32,50 +36,60 @@ fn held_at(spans: &[Span; 6], second: u32) -> Option<u8>
 {
     let mut left = second;
     for span in spans {
-        let seconds = span.seconds as u32;
-        if left < seconds {
+        if left < seconds(span) {
             return Some(span.frame);
         }
-        left -= seconds;
+        left -= seconds(span);
     }
     None
 }
 
-// Writes the pairs of frame and seconds.
-fn pairs(spans: &[Span; 6]) -> [u8; 12]
+// The pairs of frame and seconds.
+fn pairs(spans: &[Span; 6]) -> Octets<12>
     ensures { result ≡ flat_map pair_of spans.now }
 {
-    let mut pairs = [0; 12];
-    let mut at = 0;
+    let mut pairs = Octets::new();
     for span in spans {
-        at = put(&mut pairs, at, &[span.frame, (span.seconds % 256) as u8]);
+        pairs.extend(&[span.frame, (span.seconds % 256) as u8]);
     }
     pairs
 }
 
+impl Record for Message {
+    ghost header = { λ m. m.header };
+
+    fn header(&self) -> Header {
+        self.header
+    }
+}
+
 impl Message {
     // The frame that the message gives at an age in seconds.
+    #[tactic(auto, unfolding(crate::specs::Messages::frame_at))]
     pub fn frame_at(&self, age: u32) -> Option<u8>
         ensures value { result ≡ frame_at self.now.spans age }
         ensures example { Example }
     {
-        let total = total(&self.spans);
-        if total == 0 {
-            return None;
-        }
-        held_at(&self.spans, age % total)
+        let second = age.checked_rem(total(&self.spans))?;
+        held_at(&self.spans, second)
     }
 
     // Writes the command that sets the message, if there is room for it.
+    #[tactic(auto, unfolding(crate::specs::Messages::message_bytes))]
     pub fn write_command(&self, out: &mut [u8]) -> Option<usize>
         ensures count { result ≡ room_for (message_bytes self.now) out.old }
         ensures bytes { out.new ≡ laid (message_bytes self.now) out.old }
     {
-        put_command(
+        let Header {
+            number,
+            revision,
+            check,
+        } = self.header;
+        lay_command(
+            &[0x0C, number, revision],
+            pairs(&self.spans).as_slice(),
+            check,
             out,
-            &[0x0C, self.number, self.revision],
-            &pairs(&self.spans),
-            self.check,
         )
     }
 }

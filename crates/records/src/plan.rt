@@ -1,20 +1,23 @@
-ghost use Rattle.std.specs.Prelude.{◌≡◌, ℕ, ◌+◌, ◌*◌, Decides};
+ghost use Rattle.std.specs.Prelude.{◌≡◌, ℕ, Decides};
 ghost use Rattle.std.specs.List.{flat_map};
-ghost use Rattle.records.specs.Plans.{entry_of, covers, meets, runs_on, covered, covering, entry_at, meet, meets_any, clashing, both_run, common_day, any_meet, shares, Overlapping, SharesMinute, line_of, plan_of, plan_bytes};
+ghost use Rattle.records.specs.Plans.{entry_of, covers, meets, runs_on, covering, entry_at, meets_any, clashing, both_run, common_day, any_meet, shares, Overlapping, SharesMinute, line_of, plan_of, plan_bytes};
 ghost use Rattle.records.specs.Writing.{room_for, laid};
 
-use crate::writing::{put, put_command};
-use commands::lists::{Line, Time};
+use crate::slots::Record;
+use crate::writing::lay_command;
+use commands::command::Header;
+use commands::lists::Line;
+use octets::Octets;
 
 // What an entry of a plan shows.
-#[derive(Clone, Copy)]
+#[derive(Clone, Copy, Debug, PartialEq, Eq)]
 pub enum Shows {
     Frame(u8),
     Message(u8),
 }
 
 // What is shown from a minute of the day up to another, which is outside.
-#[derive(Clone, Copy)]
+#[derive(Clone, Copy, Debug, PartialEq, Eq)]
 pub struct Entry {
     pub shows: Shows,
     pub start: u16,
@@ -22,23 +25,15 @@ pub struct Entry {
 }
 
 // What is shown at which minutes of which weekdays; bit 0 of `days` is Sunday.
-#[derive(Clone, Copy)]
+#[derive(Clone, Copy, Debug, PartialEq, Eq)]
 pub struct Plan {
-    pub number: u8,
-    pub revision: u8,
+    pub header: Header,
     pub days: u8,
     pub entries: [Option<Entry>; 6],
-    pub check: u16,
-}
-
-fn minute_of(time: Time) -> u16
-    ensures { result ≡ time.hour * 60 + time.minute }
-{
-    time.hour as u16 * 60 + time.minute as u16
 }
 
 impl Entry {
-    // The entry of a line that is filled; none of any other.
+    // The entry of a line that is filled; none of any other. No `TryFrom`, since an empty line is no error.
     pub fn read(line: Line) -> Option<Entry>
         ensures { result ≡ entry_of line }
     {
@@ -49,8 +44,8 @@ impl Entry {
         };
         Some(Entry {
             shows,
-            start: minute_of(line.start),
-            stop: minute_of(line.stop),
+            start: line.start.minute_of_day(),
+            stop: line.stop.minute_of_day(),
         })
     }
 
@@ -89,77 +84,51 @@ fn line_of(entry: Option<Entry>) -> [u8; 6]
     ]
 }
 
-fn lines(entries: &[Option<Entry>; 6]) -> [u8; 36]
+#[tactic(auto, using(crate::proofs::Lines::lines_more))]
+fn lines(entries: &[Option<Entry>; 6]) -> Octets<36>
     ensures { result ≡ flat_map line_of entries.now }
 {
-    let mut lines = [0; 36];
-    let mut at = 0;
+    let mut lines = Octets::new();
     for entry in entries {
-        at = put(&mut lines, at, &line_of(*entry));
+        lines.extend(&line_of(*entry));
     }
     lines
 }
 
-fn covered(entry: Option<Entry>, minute: u16) -> bool
-    ensures { result ≡ covered entry minute }
-{
-    match entry {
-        Some(entry) => entry.covers(minute),
-        None => false,
-    }
-}
-
-// The entry that covers a minute.
-fn covering(entries: &[Option<Entry>; 6], minute: u16) -> Option<Entry>
+// The first of several entries that covers a minute.
+fn covering(entries: &[Option<Entry>], minute: u16) -> Option<Entry>
     ensures { result ≡ covering entries.now minute }
 {
-    for entry in entries {
-        if covered(*entry, minute) {
-            return *entry;
-        }
-    }
-    None
-}
-
-fn meet(entry: Option<Entry>, other: Option<Entry>) -> bool
-    ensures { result ≡ meet entry other }
-{
-    match (entry, other) {
-        (Some(entry), Some(other)) => entry.meets(&other),
-        _ => false,
-    }
+    entries
+        .iter()
+        .flatten()
+        .find(|entry| entry.covers(minute))
+        .copied()
 }
 
 // Whether an entry shares a minute with one of several.
-fn meets_any(one: Option<Entry>, others: &[Option<Entry>]) -> bool
-    ensures { result ≡ meets_any one others.now }
+fn meets_any(one: &Entry, others: &[Option<Entry>]) -> bool
+    ensures { result ≡ meets_any one.now others.now }
 {
-    for other in others {
-        if meet(one, *other) {
-            return true;
-        }
-    }
-    false
+    others.iter().flatten().any(|other| one.meets(other))
 }
 
 // Whether any of several entries shares a minute with one of several others.
 fn any_meet(entries: &[Option<Entry>], others: &[Option<Entry>]) -> bool
     ensures { result ≡ any_meet others.now entries.now }
 {
-    for entry in entries {
-        if meets_any(*entry, others) {
-            return true;
-        }
-    }
-    false
+    entries
+        .iter()
+        .flatten()
+        .any(|entry| meets_any(entry, others))
 }
 
 // Whether two entries of a list share a minute.
 fn clashing(entries: &[Option<Entry>]) -> bool
     ensures { result ≡ clashing entries.now }
 {
-    for (i, entry) in entries.iter().enumerate() {
-        if meets_any(*entry, &entries[i + 1..]) {
+    for (place, entry) in entries.iter().enumerate() {
+        if entry.is_some_and(|entry| meets_any(&entry, &entries[place + 1..])) {
             return true;
         }
     }
@@ -180,44 +149,33 @@ fn both_run(days: u8, others: u8, weekday: u8) -> bool
 
 // Whether some weekday is in both.
 fn common_day(days: u8, others: u8) -> bool
-    ensures { result ≡ common_day days others 7 }
+    ensures { result ≡ common_day days others }
 {
-    for weekday in 0..7u8 {
-        if both_run(days, others, weekday) {
-            return true;
-        }
-    }
-    false
+    (0..7u8).any(|weekday| both_run(days, others, weekday))
 }
 
-fn sharing(plan: &Plan, other: &Plan) -> bool
-    ensures { result ≡ shares plan.now other.now }
-{
-    common_day(plan.days, other.days) && any_meet(&plan.entries, &other.entries)
+impl Record for Plan {
+    ghost header = { λ p. p.header };
+
+    fn header(&self) -> Header {
+        self.header
+    }
 }
 
 impl Plan {
-    pub fn new(number: u8, revision: u8, days: u8, lines: [Line; 6], check: u16) -> Plan
-        ensures { result ≡ plan_of number revision days lines check }
+    #[tactic(auto, unfolding(crate::specs::Plans::plan_of))]
+    pub fn new(header: Header, days: u8, lines: [Line; 6]) -> Plan
+        ensures { result ≡ plan_of header days lines }
     {
-        let [a, b, c, d, e, f] = lines;
         Plan {
-            number,
-            revision,
+            header,
             days,
-            entries: [
-                Entry::read(a),
-                Entry::read(b),
-                Entry::read(c),
-                Entry::read(d),
-                Entry::read(e),
-                Entry::read(f),
-            ],
-            check,
+            entries: lines.map(Entry::read),
         }
     }
 
     // The entry that covers a minute of a weekday, Sunday being 0.
+    #[tactic(auto, unfolding(crate::specs::Plans::entry_at))]
     pub fn entry_at(&self, weekday: u8, minute: u16) -> Option<Entry>
         ensures { result ≡ entry_at self.now weekday minute }
     {
@@ -229,6 +187,7 @@ impl Plan {
     }
 
     // Whether two entries of the plan share a minute.
+    #[tactic(auto, using(crate::proofs::Sharing::clashing_meaning))]
     pub fn overlaps_itself(&self) -> bool
         ensures value { result ≡ clashing self.now.entries }
         ensures meaning { Decides result (Overlapping self.now.entries) }
@@ -237,23 +196,30 @@ impl Plan {
     }
 
     // Whether two plans share a minute of a weekday.
+    #[tactic(auto, unfolding(crate::specs::Plans::shares))]
     pub fn shares_minute(&self, other: &Plan) -> bool
         ensures value { result ≡ shares self.now other.now }
         ensures meaning { Decides result (SharesMinute self.now other.now) }
     {
-        sharing(self, other)
+        common_day(self.days, other.days) && any_meet(&self.entries, &other.entries)
     }
 
     // Writes the command that sets the plan, if there is room for it.
+    #[tactic(auto, using(crate::proofs::Lines::lines_long), unfolding(crate::specs::Plans::plan_bytes))]
     pub fn write_command(&self, out: &mut [u8]) -> Option<usize>
         ensures count { result ≡ room_for (plan_bytes self.now) out.old }
         ensures bytes { out.new ≡ laid (plan_bytes self.now) out.old }
     {
-        put_command(
+        let Header {
+            number,
+            revision,
+            check,
+        } = self.header;
+        lay_command(
+            &[0x0D, number, revision, self.days],
+            lines(&self.entries).as_slice(),
+            check,
             out,
-            &[0x0D, self.number, self.revision, self.days],
-            &lines(&self.entries),
-            self.check,
         )
     }
 }

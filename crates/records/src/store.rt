@@ -1,78 +1,21 @@
 ghost use Rattle.std.specs.Prelude.{◌≡◌, ℕ, ◌≤◌, true, Some};
 ghost use Rattle.std.specs.Option.{option_map};
 ghost use Rattle.records.specs.Slots.{slot_of};
-ghost use Rattle.records.specs.Stores.{empty_store, stored, record_at, number_of, kind_of, Untouched, slot_count, Lawful, listing_count, listing_written, RisingAt, checksum_of, summary_of};
+ghost use Rattle.records.specs.Stores.{empty_store, stored, record_at, number_of, kind_of, Untouched, Lawful, listing_count, listing_written, RisingAt, checksum_of, summary_of};
 ghost use Rattle.records.specs.Writing.{room_for, laid};
 
-use crate::any_record::{AnyRecord, RecordKind};
+use crate::any_record::AnyRecord;
 use crate::frame::Frame;
 use crate::message::Message;
 use crate::plan::Plan;
-use crate::slots::{Record, clear, find, list, list_from, replace, summary};
-use crate::writing::put_parts;
+use crate::slots::{clear, find, list, listing, replace, summary};
+use crate::writing::{joined, lay};
+use commands::kind::RecordKind;
+use octets::Octets;
 use wire::check_word;
 
-impl Record for Frame {
-    ghost numbered = { λ f. f.number };
-
-    ghost revised = { λ f. f.revision };
-
-    ghost checked = { λ f. f.check };
-
-    fn number(&self) -> u8 {
-        self.number
-    }
-
-    fn revision(&self) -> u8 {
-        self.revision
-    }
-
-    fn check(&self) -> u16 {
-        self.check
-    }
-}
-
-impl Record for Message {
-    ghost numbered = { λ f. f.number };
-
-    ghost revised = { λ f. f.revision };
-
-    ghost checked = { λ f. f.check };
-
-    fn number(&self) -> u8 {
-        self.number
-    }
-
-    fn revision(&self) -> u8 {
-        self.revision
-    }
-
-    fn check(&self) -> u16 {
-        self.check
-    }
-}
-
-impl Record for Plan {
-    ghost numbered = { λ f. f.number };
-
-    ghost revised = { λ f. f.revision };
-
-    ghost checked = { λ f. f.check };
-
-    fn number(&self) -> u8 {
-        self.number
-    }
-
-    fn revision(&self) -> u8 {
-        self.revision
-    }
-
-    fn check(&self) -> u16 {
-        self.check
-    }
-}
-
 // The frames, messages and plans that are kept, each kind numbered from 1 to 255.
+// No invariant says that each stands under its number, since it would bind whoever writes these public fields.
 #[derive(Drop)]
 pub struct Store {
     pub frames: [Option<Frame>; 255],
@@ -124,18 +67,9 @@ impl Store {
         ensures { result ≡ record_at self.now kind number }
     {
         match kind {
-            RecordKind::Frame => match self.frame(number) {
-                Some(frame) => Some(AnyRecord::Frame(*frame)),
-                None => None,
-            },
-            RecordKind::Message => match self.message(number) {
-                Some(message) => Some(AnyRecord::Message(*message)),
-                None => None,
-            },
-            RecordKind::Plan => match self.plan(number) {
-                Some(plan) => Some(AnyRecord::Plan(*plan)),
-                None => None,
-            },
+            RecordKind::Frame => self.frame(number).copied().map(AnyRecord::Frame),
+            RecordKind::Message => self.message(number).copied().map(AnyRecord::Message),
+            RecordKind::Plan => self.plan(number).copied().map(AnyRecord::Plan),
         }
     }
 
@@ -145,13 +79,6 @@ impl Store {
         ensures found { 1 ≤ number_of kept → number_of kept ≤ 255 → record_at self.new (kind_of kept) (number_of kept) ≡ Some kept }
         ensures others { Untouched self.old self.new (kind_of kept) (number_of kept) }
         ensures lawful { Lawful self.old → Lawful self.new }
-    {
-        self.keep(kept);
-    }
-
-    fn keep(&mut self, kept: AnyRecord)
-        ensures after { self.new ≡ stored self.old kept }
-        ensures slots { slot_count self.old (kind_of kept) ≡ 255 }
     {
         match kept {
             AnyRecord::Frame(frame) => {
@@ -180,14 +107,16 @@ impl Store {
     }
 
     // The check word over number and check word of all frames, then messages, then plans, numbers rising.
+    #[tactic(auto, unfolding(crate::specs::Stores::checksum_of))]
     pub fn checksum(&self) -> u16
         ensures { result ≡ checksum_of self.now }
     {
-        let mut listed = [0; 2295];
-        let frames = list_from(&self.frames[..], &mut listed, 0);
-        let messages = list_from(&self.messages[..], &mut listed, frames);
-        let end = list_from(&self.plans[..], &mut listed, messages);
-        check_word(&listed[0..end])
+        let all: Octets<2295> = joined(
+            listing(&self.frames).as_slice(),
+            listing(&self.messages).as_slice(),
+            listing(&self.plans).as_slice(),
+        );
+        check_word(all.as_slice())
     }
 
     // Writes a bit for each number from 0 to 255 of frames, messages and plans, if 96 bytes are lent.
@@ -195,9 +124,11 @@ impl Store {
         ensures count { result ≡ room_for (summary_of self.now) out.old }
         ensures bytes { out.new ≡ laid (summary_of self.now) out.old }
     {
-        let frames = summary(&self.frames[..]);
-        let messages = summary(&self.messages[..]);
-        let plans = summary(&self.plans[..]);
-        put_parts(out, &frames, &messages, &plans)
+        let all: Octets<96> = joined(
+            &summary(&self.frames[..]),
+            &summary(&self.messages[..]),
+            &summary(&self.plans[..]),
+        );
+        lay(all.as_slice(), out)
     }
 }

@@ -1,5 +1,6 @@
 ghost use Rattle.std.specs.Prelude.{◌≤◌};
 
+use octets::Octets;
 use std::io;
 
 fn digit(b: u8) -> u8
@@ -12,15 +13,15 @@ fn digit(b: u8) -> u8
     }
 }
 
-// Reads pairs of hex digits, at most 800, and answers how many.
-pub(crate) fn read_hex(text: &[u8], out: &mut [u8; 800]) -> usize
-    ensures { result ≤ 800 }
-{
-    let n = (text.len() / 2).min(800);
-    for i in 0..n {
-        out[i] = digit(text[2 * i]) * 16 + digit(text[2 * i + 1]);
+// Reads pairs of hex digits, at most 800.
+pub(crate) fn read_hex(text: &[u8]) -> Octets<800> {
+    let mut bytes = Octets::new();
+    for pair in text.chunks_exact(2) {
+        if let [high, low] = pair {
+            bytes.push(digit(*high) * 16 + digit(*low));
+        }
     }
-    n
+    bytes
 }
 
 pub(crate) fn show_hex(rt: &HostRuntime, word: &str, bytes: &[u8]) -> io::Result<()> {

@@ -7,29 +7,54 @@
 mod digits;
 
 use commands::command::Command;
+use commands::kind::RecordKind;
 use commands::parsing::parse;
+use commands::rejection::Rejection;
 use digits::{read_hex, show_hex};
 use fitness::judging::fits;
 use fitness::soundness::check_word_right;
-use records::any_record::{AnyRecord, RecordKind};
+use records::any_record::AnyRecord;
 use records::plan::Shows;
 use records::store::Store;
 use std::io;
 
-// The record that a message sets, or the number of its refusal; none for a message that sets nothing.
-fn judge(message: &[u8]) -> Result<Option<AnyRecord>, u8> {
-    let command = match parse(message) {
-        Ok(command) => command,
-        Err(rejection) => return Err(rejection.code()),
-    };
+// Why a message is not taken.
+#[derive(Clone, Copy, Debug, PartialEq, Eq)]
+enum Refusal {
+    Formless(Rejection),
+    WrongCheckWord,
+    Unfit,
+    Overlap,
+}
+
+impl From<Rejection> for Refusal {
+    fn from(rejection: Rejection) -> Refusal {
+        Refusal::Formless(rejection)
+    }
+}
+
+impl From<Refusal> for u8 {
+    fn from(refusal: Refusal) -> u8 {
+        match refusal {
+            Refusal::Formless(rejection) => u8::from(rejection),
+            Refusal::WrongCheckWord => 0x43,
+            Refusal::Unfit => 0x44,
+            Refusal::Overlap => 0x46,
+        }
+    }
+}
+
+// The record that a message sets; none for a message that sets nothing.
+fn judge(message: &[u8]) -> Result<Option<AnyRecord>, Refusal> {
+    let command = parse(message)?;
     if !check_word_right(message) {
-        return Err(0x43);
+        return Err(Refusal::WrongCheckWord);
     }
     if !fits(&command) {
-        return Err(0x44);
+        return Err(Refusal::Unfit);
     }
     match AnyRecord::of(&command) {
-        Some(AnyRecord::Plan(plan)) if plan.overlaps_itself() => Err(0x46),
+        Some(AnyRecord::Plan(plan)) if plan.overlaps_itself() => Err(Refusal::Overlap),
         kept => Ok(kept),
     }
 }
@@ -43,19 +68,17 @@ fn list(store: &Store, kind: u8, out: &mut [u8]) -> Option<usize> {
 }
 
 fn stored(store: &Store, kind: u8, number: u8, out: &mut [u8]) -> Option<usize> {
-    match RecordKind::requested(kind) {
-        Some(kind) => match store.record_at(kind, number) {
-            Some(kept) => kept.write_command(out),
-            None => None,
-        },
-        None => None,
-    }
+    let kind = RecordKind::try_from(kind).ok()?;
+    store.record_at(kind, number)?.write_command(out)
 }
 
 fn play(rt: &HostRuntime, store: &mut Store, message: &[u8]) -> io::Result<()> {
     let mut out = [0; 800];
     match judge(message) {
-        Err(number) => println!(rt; "rejected {number}"),
+        Err(refusal) => {
+            let number = u8::from(refusal);
+            println!(rt; "rejected {number}")
+        }
         Ok(Some(kept)) => {
             store.put(kept);
             match kept.write_command(&mut out) {
@@ -78,10 +101,9 @@ fn play(rt: &HostRuntime, store: &mut Store, message: &[u8]) -> io::Result<()> {
 }
 
 fn ask_age(rt: &HostRuntime, store: &Store, number: u8, age: u32) -> io::Result<()> {
-    let frame = match store.message(number) {
-        Some(message) => message.frame_at(age),
-        None => None,
-    };
+    let frame = store
+        .message(number)
+        .and_then(|message| message.frame_at(age));
     println!(rt; "frame {}", frame.unwrap_or(0))
 }
 
@@ -92,10 +114,9 @@ fn ask_entry(
     weekday: u8,
     minute: u16,
 ) -> io::Result<()> {
-    let entry = match store.plan(number) {
-        Some(plan) => plan.entry_at(weekday, minute),
-        None => None,
-    };
+    let entry = store
+        .plan(number)
+        .and_then(|plan| plan.entry_at(weekday, minute));
     match entry {
         Some(entry) => match entry.shows {
             Shows::Frame(n) => println!(rt; "frame {n} from {}", entry.start),
@@ -133,9 +154,8 @@ fn main(rt: HostRuntime) -> io::Result<()> {
     let mut store = Store::new();
     for line in rt.lines(rt.alloc()) {
         let text = line?;
-        let mut message = [0; 800];
-        let n = read_hex(text.as_bytes(), &mut message);
-        answer(&rt, &mut store, &message[0..n])?;
+        let message = read_hex(text.as_bytes());
+        answer(&rt, &mut store, message.as_slice())?;
     }
     store.empty();
     println!(rt; "emptied {}", store.checksum())

@@ -1,37 +1,25 @@
 -- A list in a reply, entry by entry, and how long it is. Assumes nothing.
-use Rattle.std.proofs.Common.{◌≡◌, ℕ, ◌+◌, ◌*◌, ◌<◌, ◌≤◌, List, [], ◌∷◌, ◌++◌, length, get_or, take, sym, ap, ◌∙◌, mul-le-mul_right, add-mul, zero-mul, arith}
+use Rattle.std.proofs.Common.{◌≡◌, ℕ, ◌+◌, ◌*◌, ◌<◌, ◌≤◌, List, ◌∷◌, ◌++◌, length, get_or, take, refl, ap, arith, mul-le-mul_right}
 use Rattle.std.specs.List.{flat_map}
-use Rattle.std.proofs.lemmas.List.{length-append, length-take, take_all, take_more, flat_map_more}
+use Rattle.std.proofs.lemmas.List.{length-append, length-take, flat_map_more, take_all, take_more}
+use Rattle.std.proofs.lemmas.List.Concat.{length-flat_map}
+use Rattle.std.proofs.lemmas.List.Sums.{sum_by-le}
 use Rattle.replies.specs.List.{list_bytes}
-use Rattle.replies.specs.Reply.{extended}
-use Rattle.replies.specs.declared.reply.Reply.{Reply}
-use Rattle.replies.proofs.Filling.{next}
+use Rattle.replies.proofs.Filling.{cut_early}
 
 module _ {X : Type 0} (f : X → List ℕ) where
   -- one entry more
-  pub entries-more : (r s t : Reply) (xs : List X) (i : ℕ) (x : X) → i < length xs → x ≡ get_or xs i x → s ≡ extended r (flat_map f (take i xs)) → t ≡ extended s (f x) →
-      t ≡ extended r (flat_map f (take (i + 1) xs))
-  entries-more r s t xs i x h e p q =
-      next r s t (flat_map f (take i xs)) (f x) p q ∙
-      ap (extended r) (flat_map_more f [] (take i xs) x ∙ ap (flat_map f) (ap (λ (y : X). take i xs ++ y ∷ []) e ∙ sym (take_more xs i x h)))
+  pub entry_more : (n : ℕ) (was : List ℕ) (xs : List X) (i : ℕ) (x : X) (s t : List ℕ) → i < length xs → x ≡ get_or xs i x
+      → s ≡ take n (was ++ flat_map f (take i xs)) → t ≡ take n (s ++ f x) → t ≡ take n (was ++ flat_map f (take (i + 1) xs))
+  entry_more n was xs i x s t room here so_far more =
+      rw (more, so_far, cut_early, flat_map_more f was (take i xs) x) (ap (λ ys. take n (was ++ flat_map f ys)) (rw (take_more xs i x room, ← here) refl))
 
-  -- all of them
-  pub entries-all : (r s : Reply) (xs : List X) (i : ℕ) → length xs ≤ i → s ≡ extended r (flat_map f (take i xs)) → s ≡ extended r (flat_map f xs)
-  entries-all r s xs i h p = p ∙ ap (λ (ys : List X). extended r (flat_map f ys)) (take_all i xs h)
-
-  -- behind their count
-  pub counted : (r s t : Reply) (xs ys : List X) → ys ≡ xs → s ≡ extended r (length ys ∷ []) → t ≡ extended s (flat_map f ys) → t ≡ extended r (list_bytes f xs)
+  -- a list of at most m entries, of at most k bytes each, is whole where there is room for so many
+  pub whole_list : (n k m : ℕ) (head : List ℕ) (xs : List X) → ((x : X) → length (f x) ≤ k) → length head + 1 + m * k ≤ n
+      → take n (head ++ list_bytes f (take m xs)) ≡ head ++ list_bytes f (take m xs)
   unfolding list_bytes
-  counted r s t xs ys e p q = next r s t (length ys ∷ []) (flat_map f ys) p q ∙ ap (λ (zs : List X). extended r (length zs ∷ flat_map f zs)) e
-
-  -- entries of k bytes each
-  pub entries-length : (k : ℕ) (xs : List X) → ((x : X) → length (f x) ≡ k) → length (flat_map f xs) ≡ length xs * k
-  entries-length k [] e = sym (zero-mul k)
-  entries-length k (x ∷ xs) e = omega (arith, length-append (f x) (flat_map f xs), e x, entries-length k xs e, add-mul (length xs) 1 k)
-
-  -- a list of at most m entries of k bytes each
-  pub list-short : (k m : ℕ) (xs : List X) → ((x : X) → length (f x) ≡ k) → length (list_bytes f (take m xs)) ≤ m * k + 1
-  unfolding list_bytes
-  list-short k m xs e =
-      let n : length (take m xs) ≤ m = omega (arith, length-take m xs) in
-      omega (arith, entries-length k (take m xs) e, mul-le-mul_right k n)
+  whole_list n k m head xs small room =
+      let ys = take m xs in
+      let few : length ys ≤ m = omega (arith, length-take m xs) in
+      let entries = sum_by-le (λ x. length (f x)) k ys (λ _ _ _. small _) in
+      take_all n _ (omega (arith, length-append head (length ys ∷ flat_map f ys), length-flat_map f ys, mul-le-mul_right k few))

@@ -1,8 +1,6 @@
 // A list in a reply: how many entries it has, and then each of them.
-ghost use Rattle.std.specs.Prelude.{◌≡◌, ℕ, List, take};
-ghost use Rattle.std.specs.List.{flat_map};
+ghost use Rattle.std.specs.Prelude.{◌≡◌, ℕ, List, ◌++◌, take};
 ghost use Rattle.replies.specs.List.{list_bytes};
-ghost use Rattle.replies.specs.Reply.{extended};
 
 use crate::reply::Reply;
 
@@ -11,36 +9,28 @@ pub(crate) trait Entry {
     ghost laid: { Self → List ℕ };
 
     fn lay(&self, reply: &mut Reply)
-        ensures { reply.new ≡ extended reply.old (laid self.now) };
-}
-
-// The first entries, at most so many.
-fn first<T>(entries: &[T], most: usize) -> &[T]
-    ensures { result.now ≡ take most entries.now }
-{
-    if entries.len() <= most {
-        entries
-    } else {
-        &entries[0..most]
-    }
+        ensures { reply.new ≡ take 768 (reply.old ++ laid self.now) };
 }
 
 impl Reply {
-    // Each entry in its turn.
-    fn push_entries<T: Entry>(&mut self, entries: &[T])
-        ensures { self.new ≡ extended self.old (flat_map T.Entry.laid entries.now) }
+    // The list of the first entries, at most so many.
+    #[tactic(auto, unfolding(crate::specs::List::list_bytes))]
+    pub(crate) fn push_list<T: Entry>(&mut self, entries: &[T], most: u8)
+        ensures { self.new ≡ take 768 (self.old ++ list_bytes T.laid (take most entries.now)) }
     {
-        for each in entries {
+        let listed = &entries[..entries.len().min(most as usize)];
+        self.push(listed.len() as u8);
+        for each in listed {
             each.lay(self);
         }
     }
 
-    // The list of the first entries, at most so many.
-    pub(crate) fn push_list<T: Entry>(&mut self, entries: &[T], most: u8)
-        ensures { self.new ≡ extended self.old (list_bytes T.Entry.laid (take most entries.now)) }
+    // What stands before a list, and the list of the first entries, at most so many.
+    pub(crate) fn listing<T: Entry>(head: &[u8], entries: &[T], most: u8) -> Reply
+        ensures { result ≡ take 768 (head.now ++ list_bytes T.laid (take most entries.now)) }
     {
-        let listed = first(entries, most as usize);
-        self.push(listed.len() as u8);
-        self.push_entries(listed);
+        let mut reply = Reply::cut(head);
+        reply.push_list(entries, most);
+        reply
     }
 }

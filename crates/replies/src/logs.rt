@@ -1,7 +1,6 @@
 // The replies that list a log: faults, and accepted group orders. The newest entry comes first, as a log lists them.
 ghost use Rattle.std.specs.Prelude.{◌≡◌, take};
 ghost use Rattle.replies.specs.Logs.{event_number, fault_bytes, fault_log_reply, order_bytes, order_log_reply};
-ghost use Rattle.replies.specs.Reply.{contents, extended, reply_of};
 
 use crate::list::Entry;
 use crate::reply::Reply;
@@ -16,14 +15,14 @@ const FAULTS_MOST: u8 = 20;
 const ORDERS_MOST: u8 = 64;
 
 // A fault begins or ends.
-#[derive(Clone, Copy)]
+#[derive(Clone, Copy, Debug, PartialEq, Eq)]
 pub enum FaultEvent {
-    Onset,
-    Clearance,
+    Onset = 1,
+    Clearance = 0,
 }
 
 // A fault of a sign, with the number of its entry and the time of the report.
-#[derive(Clone, Copy)]
+#[derive(Clone, Copy, Debug, PartialEq, Eq)]
 pub struct FaultEntry {
     pub sign: u8,
     pub entry: u8,
@@ -33,21 +32,18 @@ pub struct FaultEntry {
 }
 
 // An accepted group order.
-#[derive(Clone, Copy)]
+#[derive(Clone, Copy, Debug, PartialEq, Eq)]
 pub struct OrderEntry {
     pub code: u8,
     pub group: u8,
     pub operand: u8,
 }
 
-impl FaultEvent {
-    pub fn number(self) -> u8
-        ensures { result ≡ event_number self }
-    {
-        match self {
-            FaultEvent::Onset => 1,
-            FaultEvent::Clearance => 0,
-        }
+impl From<FaultEvent> for u8 {
+    ghost from_gives = { λ event n. n ≡ event_number event };
+
+    fn from(event: FaultEvent) -> u8 {
+        event as u8
     }
 }
 
@@ -57,7 +53,7 @@ impl Entry for FaultEntry {
     fn lay(&self, reply: &mut Reply) {
         reply.extend(&[self.sign, self.entry]);
         reply.push_date_time(self.at);
-        reply.extend(&[self.code, self.event.number()]);
+        reply.extend(&[self.code, u8::from(self.event)]);
     }
 }
 
@@ -72,23 +68,15 @@ impl Entry for OrderEntry {
 impl Reply {
     // The first 20 entries of a fault log.
     pub fn fault_log(entries: &[FaultEntry]) -> Reply
-        ensures state { result ≡ reply_of (fault_log_reply (take 20 entries.now)) }
-        ensures bytes { contents result ≡ fault_log_reply (take 20 entries.now) }
+        ensures { result ≡ fault_log_reply (take 20 entries.now) }
     {
-        let mut reply = Reply::new();
-        reply.push(FAULT_LOG);
-        reply.push_list(entries, FAULTS_MOST);
-        reply
+        Reply::listing(&[FAULT_LOG], entries, FAULTS_MOST)
     }
 
     // The first 64 entries of an order log.
     pub fn order_log(entries: &[OrderEntry]) -> Reply
-        ensures state { result ≡ reply_of (order_log_reply (take 64 entries.now)) }
-        ensures bytes { contents result ≡ order_log_reply (take 64 entries.now) }
+        ensures { result ≡ order_log_reply (take 64 entries.now) }
     {
-        let mut reply = Reply::new();
-        reply.push(ORDER_LOG);
-        reply.push_list(entries, ORDERS_MOST);
-        reply
+        Reply::listing(&[ORDER_LOG], entries, ORDERS_MOST)
     }
 }

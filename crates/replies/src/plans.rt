@@ -1,7 +1,6 @@
 // The reply that lists the enabled plans.
 ghost use Rattle.std.specs.Prelude.{◌≡◌, take};
 ghost use Rattle.replies.specs.Plans.{enabled_plan_bytes, enabled_plans_reply};
-ghost use Rattle.replies.specs.Reply.{contents, extended, reply_of};
 
 use crate::list::Entry;
 use crate::reply::Reply;
@@ -11,7 +10,7 @@ const ENABLED_PLANS: u8 = 0x13;
 const PLANS_MOST: u8 = 96;
 
 // A plan that is enabled in a group.
-#[derive(Clone, Copy)]
+#[derive(Clone, Copy, Debug, PartialEq, Eq)]
 pub struct EnabledPlan {
     pub group: u8,
     pub plan: u8,
@@ -28,12 +27,8 @@ impl Entry for EnabledPlan {
 impl Reply {
     // The first 96 of the plans, in the order given.
     pub fn enabled_plans(plans: &[EnabledPlan]) -> Reply
-        ensures state { result ≡ reply_of (enabled_plans_reply (take 96 plans.now)) }
-        ensures bytes { contents result ≡ enabled_plans_reply (take 96 plans.now) }
+        ensures { result ≡ enabled_plans_reply (take 96 plans.now) }
     {
-        let mut reply = Reply::new();
-        reply.push(ENABLED_PLANS);
-        reply.push_list(plans, PLANS_MOST);
-        reply
+        Reply::listing(&[ENABLED_PLANS], plans, PLANS_MOST)
     }
 }

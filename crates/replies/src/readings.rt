@@ -1,7 +1,6 @@
 // The reply that tells the readings.
 ghost use Rattle.std.specs.Prelude.{◌≡◌};
 ghost use Rattle.replies.specs.Readings.{readings_reply};
-ghost use Rattle.replies.specs.Reply.{contents, reply_of};
 
 use crate::reply::Reply;
 use analog::Readings;
@@ -12,11 +11,9 @@ const SLOTS: u8 = 3;
 
 impl Reply {
     pub fn readings(readings: &Readings) -> Reply
-        ensures state { result ≡ reply_of (readings_reply readings.now) }
-        ensures bytes { contents result ≡ readings_reply readings.now }
+        ensures { result ≡ readings_reply readings.now }
     {
-        let mut reply = Reply::new();
-        reply.extend(&[READINGS, SLOTS]);
+        let mut reply = Reply::cut(&[READINGS, SLOTS]);
         reply.extend(&readings.bytes());
         reply.extend(&[0, 0]);
         reply

@@ -1,65 +1,70 @@
-// The message of a reply, as it is filled.
 ghost use Rattle.std.specs.Prelude.{◌≡◌, ◌≤◌, [], ◌∷◌, ◌++◌, length, take};
-ghost use Rattle.replies.specs.Reply.{contents, emptied, extended, word};
+ghost use Rattle.replies.specs.Reply.{word};
 
-// As many bytes as a message may have.
-const MOST: usize = 768;
+use octets::Octets;
+use std::marker::Model;
 
-// Bytes behind the message stay 0, so that replies that are filled alike are equal.
+// The message of a reply, as it is filled: at most 768 bytes.
 #[derive(Clone, Copy)]
 pub struct Reply {
-    bytes: [u8; 768],
-    length: usize,
+    message: Octets<768>,
+}
+
+impl Model for Reply {
+    ghost use Rattle.std.specs.Prelude.{ℕ, List};
+
+    ghost Value = { List ℕ };
+
+    ghost view = { λ r. r.message };
+
+    ghost inverse = { λ xs. record { message = xs } };
 }
 
 impl Reply {
     // A reply of no bytes.
     pub fn new() -> Reply
-        ensures state { result ≡ emptied }
-        ensures bytes { contents result ≡ [] }
+        ensures { result ≡ [] }
     {
         Reply {
-            bytes: [0; MOST],
-            length: 0,
+            message: Octets::new(),
+        }
+    }
+
+    // The first bytes, as many as fit.
+    pub(crate) fn cut(bytes: &[u8]) -> Reply
+        ensures { result ≡ take 768 bytes.now }
+    {
+        Reply {
+            message: Octets::cut(bytes),
         }
     }
 
     // The message.
     pub fn bytes(&self) -> &[u8]
-        ensures value { result.now ≡ contents self.now }
+        ensures value { result.now ≡ self.now }
         ensures most { length result.now ≤ 768 }
     {
-        let length = self.length.min(MOST);
-        &self.bytes[0..length]
+        self.message.as_slice()
     }
 
     // One byte more, where it fits.
     pub fn push(&mut self, byte: u8)
-        ensures state { self.new ≡ extended self.old (byte ∷ []) }
-        ensures bytes { contents self.new ≡ take 768 (contents self.old ++ byte ∷ []) }
+        ensures { self.new ≡ take 768 (self.old ++ byte ∷ []) }
     {
-        let length = self.length;
-        if length < MOST {
-            self.bytes[length] = byte;
-            self.length = length + 1;
-        }
+        self.message.push(byte);
     }
 
     // More bytes, as many as fit.
     pub fn extend(&mut self, bytes: &[u8])
-        ensures state { self.new ≡ extended self.old bytes.now }
-        ensures bytes { contents self.new ≡ take 768 (contents self.old ++ bytes.now) }
+        ensures { self.new ≡ take 768 (self.old ++ bytes.now) }
     {
-        for byte in bytes {
-            self.push(*byte);
-        }
+        self.message.extend(bytes);
     }
 
     // A word more, high byte first.
     pub fn push_word(&mut self, number: u16)
-        ensures state { self.new ≡ extended self.old (word number) }
-        ensures bytes { contents self.new ≡ take 768 (contents self.old ++ word number) }
+        ensures { self.new ≡ take 768 (self.old ++ word number) }
     {
-        self.extend(&[(number / 256) as u8, (number % 256) as u8]);
+        self.extend(&number.to_be_bytes());
     }
 }

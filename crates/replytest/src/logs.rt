@@ -2,7 +2,7 @@
 use crate::print_reply;
 use calendar::DateTime;
 use replies::{FaultEntry, FaultEvent, OrderEntry, Reply};
-use std::io;
+use std::{array, io};
 
 pub(crate) fn print_faults(rt: &impl Print) -> io::Result<()> {
     let at = DateTime {
@@ -27,15 +27,12 @@ pub(crate) fn print_faults(rt: &impl Print) -> io::Result<()> {
     };
     print_reply(rt, "faults", &Reply::fault_log(&[]))?;
     print_reply(rt, "faults", &Reply::fault_log(&[onset, clearance]))?;
-    let mut entries = [onset; 22];
-    for i in 0..22u8 {
-        entries[i as usize] = FaultEntry {
-            sign: i + 1,
-            entry: 200 - i,
-            ..onset
-        };
-    }
-    print_reply(rt, "faults", &Reply::fault_log(&entries[0..20]))?;
+    let entries: [FaultEntry; 22] = array::from_fn(|i| FaultEntry {
+        sign: i as u8 + 1,
+        entry: 200 - i as u8,
+        ..onset
+    });
+    print_reply(rt, "faults", &Reply::fault_log(entries.split_at(20).0))?;
     print_reply(rt, "faults", &Reply::fault_log(&entries))
 }
 
@@ -47,14 +44,11 @@ pub(crate) fn print_orders(rt: &impl Print) -> io::Result<()> {
     };
     print_reply(rt, "orders", &Reply::order_log(&[]))?;
     print_reply(rt, "orders", &Reply::order_log(&[order]))?;
-    let mut entries = [order; 66];
-    for i in 0..66u8 {
-        entries[i as usize] = OrderEntry {
-            code: 0x10,
-            group: i,
-            operand: 255 - i,
-        };
-    }
-    print_reply(rt, "orders", &Reply::order_log(&entries[0..64]))?;
+    let entries: [OrderEntry; 66] = array::from_fn(|i| OrderEntry {
+        code: 0x10,
+        group: i as u8,
+        operand: 255 - i as u8,
+    });
+    print_reply(rt, "orders", &Reply::order_log(entries.split_at(64).0))?;
     print_reply(rt, "orders", &Reply::order_log(&entries))
 }

@@ -2,7 +2,7 @@
 use crate::print_reply;
 use analog::{Reading, Readings};
 use replies::Reply;
-use std::io;
+use std::{array, io};
 
 pub(crate) fn print_verdicts(rt: &impl Print) -> io::Result<()> {
     print_reply(rt, "empty", &Reply::new())?;
@@ -13,20 +13,17 @@ pub(crate) fn print_verdicts(rt: &impl Print) -> io::Result<()> {
 
 // A short command, one that fills a reply, and one that is cut.
 pub(crate) fn print_commands(rt: &impl Print) -> io::Result<()> {
-    let mut bytes = [0; 770];
-    for i in 0..770usize {
-        bytes[i] = (i % 251) as u8;
-    }
-    print_reply(rt, "command", &Reply::command(&bytes[0..17]))?;
-    print_reply(rt, "command", &Reply::command(&bytes[0..768]))?;
+    let bytes: [u8; 770] = array::from_fn(|i| (i % 251) as u8);
+    print_reply(rt, "command", &Reply::command(bytes.split_at(17).0))?;
+    print_reply(rt, "command", &Reply::command(bytes.split_at(768).0))?;
     print_reply(rt, "command", &Reply::command(&bytes))?;
-    let mut parts = Reply::command(&bytes[0..765]);
+    let mut parts = Reply::command(bytes.split_at(765).0);
     parts.push(0xAA);
     parts.push_word(0x1234);
     parts.push(0xBB);
     parts.extend(&[0xCC, 0xDD]);
     print_reply(rt, "parts", &parts)?;
-    let mut cut = Reply::command(&bytes[0..767]);
+    let mut cut = Reply::command(bytes.split_at(767).0);
     cut.push_word(0x1234);
     print_reply(rt, "cut", &cut)
 }

@@ -2,7 +2,7 @@
 use crate::print_reply;
 use calendar::DateTime;
 use replies::{Named, Reply, Row, Status};
-use std::io;
+use std::{array, io};
 
 pub(crate) fn print_short(rt: &impl Print) -> io::Result<()> {
     let at = DateTime {
@@ -24,15 +24,15 @@ pub(crate) fn print_short(rt: &impl Print) -> io::Result<()> {
         sign: 1,
         error_code: 0x0B,
         enabled: true,
-        frame: Named {
+        frame: Some(Named {
             number: 5,
             revision: 2,
-        },
-        message: Named::none(),
-        plan: Named {
+        }),
+        message: None,
+        plan: Some(Named {
             number: 9,
             revision: 255,
-        },
+        }),
     };
     print_reply(rt, "status", &Reply::status(status, &[row]))
 }
@@ -52,33 +52,26 @@ pub(crate) fn print_full(rt: &impl Print) -> io::Result<()> {
         at,
         checksum: 0xBEEF,
     };
-    let mut rows = [Row {
-        sign: 0,
-        error_code: 0,
-        enabled: false,
-        frame: Named::none(),
-        message: Named::none(),
-        plan: Named::none(),
-    }; 14];
-    for i in 0..14u8 {
-        rows[i as usize] = Row {
+    let rows: [Row; 14] = array::from_fn(|i| {
+        let i = i as u8;
+        Row {
             sign: i + 1,
             error_code: 16 + i,
             enabled: i % 2 == 1,
-            frame: Named {
+            frame: Some(Named {
                 number: 32 + i,
                 revision: 48 + i,
-            },
-            message: Named {
+            }),
+            message: Some(Named {
                 number: 64 + i,
                 revision: 80 + i,
-            },
-            plan: Named {
+            }),
+            plan: Some(Named {
                 number: 96 + i,
                 revision: 112 + i,
-            },
-        };
-    }
-    print_reply(rt, "status", &Reply::status(status, &rows[0..12]))?;
+            }),
+        }
+    });
+    print_reply(rt, "status", &Reply::status(status, rows.split_at(12).0))?;
     print_reply(rt, "status", &Reply::status(status, &rows))
 }

@@ -1,18 +1,14 @@
-use Rattle.std.proofs.Common.{sym, ◌∙◌}
-use Rattle.fitness.proofs.Listing.{left-more, left-all}
+use Rattle.std.proofs.Common.{◌∙◌, rules, tests}
+use Rattle.std.proofs.lemmas.Iterator.{YieldsList-from_slice}
+use Rattle.std.proofs.lemmas.Iterator.Adapters.{YieldsList-from_skip_while}
+use Rattle.std.proofs.lemmas.Iterator.Search.{all_from_yields_List}
+use Rattle.fitness.proofs.Listing.{blank_after_filled}
 use Rattle.fitness.proofs.judging.ends_well.Goals as goal
-
-pub returns-in-None : goal.returns-in-None
-returns-in-None g c =
-    sym (left-more g.E.Listed.fills g.E.Listed.blanks c.args.list.now c.loop-part.part-index c.part-item.result
-    c.loop-part.ended _ c.loop-part-test.true c.part-item.is c.in-None.ensures) ∙ c.loop-part.invariant
-
-pub loop-part-preserved : goal.loop-part-preserved
-loop-part-preserved g c =
-    sym (left-more g.E.Listed.fills g.E.Listed.blanks c.args.list.now c.loop-part.part-index c.part-item.result
-    c.loop-part.ended _ c.loop-part-test.true c.part-item.is c.in-Some.ensures) ∙ c.loop-part.invariant
 
 pub returns : goal.returns
 returns g c =
-    sym (left-all g.E.Listed.fills g.E.Listed.blanks c.args.list.now c.loop-part.part-index c.loop-part.ended c.loop-part-test.false)
-    ∙ c.loop-part.invariant
+    all_from_yields_List g.E.Listed.blanks _ _ c.all.result c.all.ensures.ran
+    (YieldsList-from_skip_while _ _ _ g.E.Listed.fills _ (λ x b q k. search (rules, tests))
+    (YieldsList-from_slice c.args.list.now (cc)) c.skip_while.ensures.closure c.skip_while.ensures.done_skipping)
+    (λ x b q k. search (rules, tests))
+    ∙ blank_after_filled g.E.Listed.fills g.E.Listed.blanks c.args.list.now

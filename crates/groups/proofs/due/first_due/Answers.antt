@@ -1,5 +1,5 @@
 use Rattle.std.proofs.Common.{is_some, None, sym, refl, ap, ◌∙◌, arith}
-use Rattle.records.proofs.Looking.{look_hit, look-on, look-all}
+use Rattle.groups.proofs.Looking.{look_hit, look-on, look-all}
 use Rattle.groups.specs.Due.{slot_due, first_due}
 use Rattle.groups.proofs.due.first_due.Goals as goal
 

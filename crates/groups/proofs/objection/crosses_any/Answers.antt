@@ -1,5 +1,5 @@
 use Rattle.std.proofs.Common.{true, None, sym, refl, ◌∙◌, arith}
-use Rattle.records.proofs.Looking.{look_hit, look-on, look-all}
+use Rattle.groups.proofs.Looking.{look_hit, look-on, look-all}
 use Rattle.groups.specs.Objections.{crosses, crosses_any}
 use Rattle.groups.proofs.objection.crosses_any.Goals as goal
 

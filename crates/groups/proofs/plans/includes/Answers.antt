@@ -1,5 +1,5 @@
 use Rattle.std.proofs.Common.{ℕ, true, List, None, Option, sym, refl, ◌∙◌, arith}
-use Rattle.records.proofs.Looking.{look_hit, look-on, look-all}
+use Rattle.groups.proofs.Looking.{look_hit, look-on, look-all}
 use Rattle.groups.specs.Plans.{holds, includes}
 use Rattle.groups.proofs.plans.includes.Goals as goal
 

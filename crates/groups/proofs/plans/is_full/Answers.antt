@@ -1,5 +1,5 @@
 use Rattle.std.proofs.Common.{false, not, is_some, None, ap, arith}
-use Rattle.records.proofs.Looking.{look_hit, look-on, look-all}
+use Rattle.groups.proofs.Looking.{look_hit, look-on, look-all}
 use Rattle.groups.specs.Plans.{full}
 use Rattle.groups.proofs.Slots.{full-look}
 use Rattle.groups.proofs.plans.is_full.Goals as goal

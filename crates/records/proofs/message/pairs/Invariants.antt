@@ -1,7 +1,7 @@
-use Rattle.std.proofs.Common.{◌≡◌, ◌*◌, length, take}
+use Rattle.std.proofs.Common.{◌≡◌, take}
 use Rattle.std.specs.List.{flat_map}
 use Rattle.records.specs.Messages.{pair_of}
 use Rattle.records.proofs.message.pairs.Given as goal
 
 abbrev pub invariant-loop-span : goal.invariant-loop-span
-invariant-loop-span l = (l.at ≡ 2 * l.span-index) × (length l.pairs ≡ 12) × (take l.at l.pairs ≡ flat_map pair_of (take l.span-index l.spans))
+invariant-loop-span l = l.pairs ≡ flat_map pair_of (take l.span-index l.spans)

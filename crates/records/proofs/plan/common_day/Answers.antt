@@ -1,20 +1,12 @@
-use Rattle.std.proofs.Common.{◌≡◌, sym, refl, ◌∙◌, arith}
-use Rattle.records.specs.Plans.{common_day}
-use Rattle.records.proofs.Days.{day-found, day-more}
+use Rattle.std.proofs.Common.{refl, rules}
+use Rattle.std.proofs.lemmas.Iterator.{YieldsList-from_range}
+use Rattle.std.proofs.lemmas.Iterator.Search.{any_from_yields_List}
+use Rattle.records.specs.Plans.{both_run, common_day}
 use Rattle.records.proofs.plan.common_day.Goals as goal
-
-pub loop-weekday-init : goal.loop-weekday-init
-unfolding common_day
-loop-weekday-init c = refl
-
-pub returns-then-both_run : goal.returns-then-both_run
-returns-then-both_run c =
-    sym (day-found c.args.days c.args.others c.loop-weekday.weekday 7 (sym c.both_run.ensures ∙ c.if-both_run.true) c.loop-weekday-test.true)
-
-pub loop-weekday-preserved : goal.loop-weekday-preserved
-loop-weekday-preserved c =
-    day-more c.args.days c.args.others c.loop-weekday.weekday (sym c.both_run.ensures ∙ c.if-both_run.false) c.loop-weekday.invariant
+use borrow.Author.Tests.{tests}
 
 pub returns : goal.returns
+unfolding common_day
 returns c =
-    let e : c.loop-weekday.weekday ≡ 7 = omega arith in sym (rw (← e) c.loop-weekday.invariant)
+    any_from_yields_List (both_run c.args.days c.args.others) _ _ _ c.any.ensures.ran (YieldsList-from_range 0 7 7 refl refl)
+    (λ x b q k. search (rules, tests))

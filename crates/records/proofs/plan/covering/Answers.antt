@@ -1,20 +1,13 @@
-use Rattle.std.proofs.Common.{List, None, Option, sym, refl, ◌∙◌, arith}
+use Rattle.std.proofs.Common.{◌∙◌, rules}
+use Rattle.std.proofs.lemmas.Iterator.Search.{find_from_yields_List}
 use Rattle.records.specs.declared.plan.Entry.{Entry}
-use Rattle.records.specs.Plans.{covered, covering}
-use Rattle.records.proofs.Looking.{look_hit, look-on, look-all}
+use Rattle.records.specs.Plans.{covers}
+use Rattle.records.proofs.Filled.{filled_road}
 use Rattle.records.proofs.plan.covering.Goals as goal
-
-pub returns-then-covered : goal.returns-then-covered
-returns-then-covered c =
-    look_hit (λ (xs : List (Option Entry)). covering xs c.args.minute) (λ x _. covered x c.args.minute) (λ x. x) (λ _ _. refl) c.args.entries.now c.loop-entry.entry-index
-    None (omega arith) (sym c.covered.ensures ∙ c.if-covered.true) c.loop-entry.invariant
-
-pub loop-entry-preserved : goal.loop-entry-preserved
-loop-entry-preserved c =
-    look-on (λ (xs : List (Option Entry)). covering xs c.args.minute) (λ x _. covered x c.args.minute) (λ x. x) (λ _ _. refl) c.args.entries.now c.loop-entry.entry-index
-    None (omega arith) (sym c.covered.ensures ∙ c.if-covered.false) c.loop-entry.invariant
+use borrow.Author.Tests.{tests}
 
 pub returns : goal.returns
 returns c =
-    look-all (λ (xs : List (Option Entry)). covering xs c.args.minute) (λ x _. covered x c.args.minute) (λ x. x) (λ _ _. refl) c.args.entries.now c.loop-entry.entry-index
-    (omega arith) c.loop-entry.invariant
+    c.copied.ensures
+    ∙ find_from_yields_List (λ (e : Entry). covers e c.args.minute) _ _ _ c.find.ensures.ran
+    (filled_road c.args.entries.now (cc) (cc) (cc) (cc)) (λ x b q k. search (rules, tests))

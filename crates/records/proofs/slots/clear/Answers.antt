@@ -1,15 +1,15 @@
-use Rattle.std.proofs.Common.{◌≡◌, ℕ, ◌+◌, ◌<◌, List, length, take, set, replicate, None, Option, sym, ap, ◌∙◌, arith}
-use Rattle.std.proofs.lemmas.List.{take_more_set, replicate_more, take_all}
+use Rattle.std.proofs.Common.{◌≡◌, ◌∷◌, List, [], length, replicate, None, Option, refl, rules}
+use Rattle.std.specs.List.{FoldsTo}
 use Rattle.records.proofs.slots.clear.Goals as goal
 
-more : {R : Type 0} (xs : List (Option R)) (i : ℕ) → i < length xs → take i xs ≡ replicate i None → take (i + 1) (set xs i None) ≡ replicate (i + 1) None
-more {R = R} xs i h inv = let a = take_more_set xs i None h in let b = replicate_more {X = Option R} i None in cc
-
-pub loop-slot-preserved : goal.loop-slot-preserved
-loop-slot-preserved g c = more c.loop-slot.slots c.loop-slot.slot-index (omega arith) c.loop-slot.invariant
+-- what steps that give one value alone have given
+same : {F X : Type 0} (step : F → X → F → Type 0) (v : X) (f last : F) (xs : List X) → FoldsTo step f xs last
+    → ((p q : F) (x : X) → step p x q → x ≡ v) → xs ≡ replicate (length xs) v
+same step v f last [] h k = refl
+same step v f last (x ∷ xs) h k = let e = k f h.0 x h.1 in let i = same step v h.0 last xs h.2 k in cc
 
 pub returns : goal.returns
 returns g c =
-    let e = take_all c.loop-slot.slot-index c.loop-slot.slots (omega arith) in
-    let n : c.loop-slot.slot-index ≡ length c.args.slots.now = omega arith in
-    sym e ∙ c.loop-slot.invariant ∙ ap (λ (k : ℕ). replicate k None) n
+    let r = c.fill_with.ensures.ran in
+    let e = same {X = Option _} _ None _ r.0 c.fill_with.new.self r.1 (λ p q x k. search rules) in
+    let l = c.fill_with.ensures.len in cc

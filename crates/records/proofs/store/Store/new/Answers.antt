@@ -1,10 +1,6 @@
-use Rattle.std.proofs.Common.{refl}
-use Rattle.records.specs.Stores.{frame_number, message_number, plan_number}
-use Rattle.records.proofs.Keeping.{none-numbered}
+use Rattle.records.specs.Stores.{frame_header, message_header, plan_header}
+use Rattle.records.proofs.Keeping.{none_numbered}
 use Rattle.records.proofs.store.Store.new.Goals as goal
 
-pub returns : goal.returns
-returns c = record {
-  value = refl;
-  lawful = (none-numbered frame_number 255, none-numbered message_number 255, none-numbered plan_number 255);
-}
+pub returns-clause-lawful : goal.returns-clause-lawful
+returns-clause-lawful c = (none_numbered frame_header 255, none_numbered message_header 255, none_numbered plan_header 255)

@@ -1,23 +1,32 @@
-use Rattle.std.proofs.Common.{ℕ, [], ◌∷◌, ◌++◌, take, refl, ap, ◌∙◌, arith}
+use Rattle.std.proofs.Common.{◌≡◌, ◌≤◌, [], ◌∷◌, ◌++◌, Some, None, Option, length, refl, lit≤, append_assoc}
+use Rattle.std.proofs.lemmas.List.{length-append}
+use Rattle.std.specs.Int.{from_bool}
 use Rattle.replies.specs.Dates.{date_time_bytes}
-use Rattle.replies.specs.List.{list_bytes}
-use Rattle.replies.specs.Reply.{extended, word}
-use Rattle.replies.specs.Status.{flag, row_bytes, status_reply}
-use Rattle.replies.proofs.Filling.{started, filled, holds}
-use Rattle.replies.proofs.Listing.{list-short}
+use Rattle.replies.specs.Reply.{word}
+use Rattle.replies.specs.Status.{named_bytes, row_bytes, status_reply}
+use Rattle.replies.specs.declared.status.Named.{Named}
+use Rattle.replies.specs.declared.status.Row.{Row}
+use Rattle.replies.proofs.Listing.{whole_list}
 use Rattle.replies.proofs.reply.Reply.status.Goals as goal
+
+length-named : (n : Option Named) → length (named_bytes n) ≡ 2
+length-named None = refl
+length-named (Some n) = refl
+
+short_row : (row : Row) → length (row_bytes row) ≤ 9
+short_row row = simp (length-append, length-named) (lit≤ tt)
 
 pub returns : goal.returns
 unfolding status_reply
 returns c =
-    let status = c.args.status in
-    let some = take 12 c.args.rows.now in
-    let state = 0x06 ∷ flag status.online ∷ status.application_error ∷ [] in
-    let date = date_time_bytes status.at in
-    let p = c.extend.ensures.state ∙ ap (λ (n : ℕ). extended c.new-reply.result (0x06 ∷ n ∷ c.args.status.application_error ∷ [])) c.flag_of.ensures in
-    let s = started c.new-reply.result c.extend.new.self state c.new-reply.ensures.state p in
-    let t = filled c.extend.new.self c.push_date_time.new.self state date s c.push_date_time.ensures in
-    let u = filled c.push_date_time.new.self c.push_word.new.self (state ++ date) (word status.checksum) t c.push_word.ensures.state in
-    let v = filled c.push_word.new.self c.push.new.self (state ++ (date ++ word status.checksum)) (0 ∷ []) u c.push.ensures.state in
-    let e = filled c.push.new.self c.push_list.new.self (state ++ (date ++ (word status.checksum ++ (0 ∷ [])))) (list_bytes row_bytes some) v c.push_list.ensures in
-    record { state = e; bytes = holds c.push_list.new.self (status_reply status some) e (omega (arith, list-short row_bytes 9 12 c.args.rows.now (λ _. refl))) }
+    let s = c.args.status in
+    let head = 0x06 ∷ from_bool s.online ∷ s.application_error ∷ (date_time_bytes s.at ++ (word s.checksum ++ (0 ∷ []))) in
+    simp (
+      c.push_list.ensures,
+      c.push.ensures,
+      c.push_word.ensures,
+      c.push_date_time.ensures,
+      c.cut-reply.ensures,
+      c.from.ensures,
+      append_assoc,
+    ) (whole_list row_bytes 768 9 12 head c.args.rows.now short_row (lit≤ tt))

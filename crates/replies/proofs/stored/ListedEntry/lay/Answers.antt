@@ -1,9 +1,6 @@
-use Rattle.std.proofs.Common.{[], ◌∷◌}
-use Rattle.replies.specs.Reply.{word}
-use Rattle.replies.proofs.Filling.{next}
+use Rattle.std.proofs.Common.{append_assoc}
+use Rattle.replies.proofs.Filling.{cut_early}
 use Rattle.replies.proofs.stored.ListedEntry.lay.Goals as goal
 
 pub returns : goal.returns
-returns c =
-    next c.args.reply.now c.push.new.self c.push_word.new.self (c.args.self.now.number ∷ []) (word c.args.self.now.check)
-    c.push.ensures.state c.push_word.ensures.state
+returns c = simp (c.push_word.ensures, c.push.ensures, cut_early, append_assoc)

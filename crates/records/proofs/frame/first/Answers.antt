@@ -1,7 +1,0 @@
-use Rattle.std.proofs.Common.{sym, arith}
-use Rattle.std.proofs.lemmas.List.{take_all}
-use Rattle.records.proofs.frame.first.Goals as goal
-
-pub returns-else-count-bytes : goal.returns-else-count-bytes
-returns-else-count-bytes c =
-    record { value = sym (take_all c.args.count c.args.bytes.now (omega arith)); few = omega arith }
