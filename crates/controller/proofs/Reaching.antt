@@ -11,7 +11,7 @@ use Rattle.controller.specs.declared.call.Call.TheVariants.{Line, Tick, Report, 
 use Rattle.controller.specs.declared.service.Controller.{Controller}
 use Rattle.controller.specs.declared.site.Site.{Site}
 use Rattle.controller.specs.Due.{View, view, absent, due_number, stored_under, shown_by, face_of, face_due, frame_due, sign_group}
-use Rattle.controller.specs.Run.{step, opening, view_after, moves, is_made, made, with_report, Reached}
+use Rattle.controller.specs.Run.{step, opening, view_after, moves, is_made, made, with_report, Acted, Reached}
 use Rattle.controller.proofs.Shown.{shown-same}
 
 -- the face due is the same under what is taken pointwise the same
@@ -34,7 +34,7 @@ steady : (s : Site) (lent : ℕ) (v : View) (t : Shape → Bool) (call : Call) (
     → cond (moves call) (face_due (on s lent v call) t) face ≡ face_due (on s lent v call) t
 steady s lent v t (Line b) face e = e
 steady s lent v t (Tick b) face e = refl
-steady s lent v t (Report sign code) face e = e ∙ report-steady s v sign code t (leb 20 lent) (has s.signs sign)
+steady s lent v t (Report sign code) face e = e ∙ report-steady s v sign code t (leb 20 lent) (has (length s.sign_groups) sign)
 steady s lent v t (Reading slot reading state) face e = e
 
 -- one call more of a history
@@ -46,37 +46,31 @@ history-more s lent g h call = by-made (is_made lent call)
     by-made false = ap (view_after s g) (sym (append-nil h))
 
 same-site : (lent : ℕ) (c d : Controller) (takes after : ℕ → Shape → Bool) (face shown : ℕ → Face) (call : Call)
-    → d.site ≡ c.site
-    → ((g : ℕ) → view g d ≡ on c.site lent (view g c) call)
-    → ((k : ℕ) → k < c.site.signs → shown (k + 1) ≡ cond (moves call) (face_due (view (sign_group c k) d) (takes (k + 1))) (face (k + 1)))
-    → SameTaking takes after
+    → Acted lent call c d takes face shown → SameTaking takes after
     → (h : List Call) → Reached c.site takes h c face → Reached c.site after (h ++ made lent (call ∷ [])) d shown
-same-site lent c d takes after face shown call site state faces same h r =
+same-site lent c d takes after face shown call acted same h r =
     let onward : (g : ℕ) → on c.site lent (view g c) call ≡ view_after c.site g (h ++ made lent (call ∷ []))
     = λ g. ap (λ v. on c.site lent v call) (r.state g) ∙ history-more c.site lent g h call in
     record {
-      site = site;
-      state = λ g. state g ∙ onward g;
+      site = acted.site;
+      state = λ g. acted.state g ∙ onward g;
       faces = λ k lt.
           let g = sign_group c k in
           let before : face (k + 1) ≡ face_due (view g c) (takes (k + 1))
           = r.faces k lt ∙ sym (ap (λ v. face_due v (takes (k + 1))) (r.state g)) in
-          faces k lt
-          ∙ (ap (λ v. cond (moves call) (face_due v (takes (k + 1))) (face (k + 1))) (state g)
+          acted.attached k lt
+          ∙ (ap (λ v. cond (moves call) (face_due v (takes (k + 1))) (face (k + 1))) (acted.state g)
           ∙ (steady c.site lent (view g c) (takes (k + 1)) call (face (k + 1)) before
           ∙ (ap (λ v. face_due v (takes (k + 1))) (onward g)
           ∙ due-same (view_after c.site g (h ++ made lent (call ∷ []))) (takes (k + 1)) (after (k + 1)) (same (k + 1)))));
     }
 
 pub reached-more : (lent : ℕ) (c d : Controller) (takes after : ℕ → Shape → Bool) (face shown : ℕ → Face) (call : Call)
-    → d.site ≡ c.site
-    → ((g : ℕ) → view g d ≡ on c.site lent (view g c) call)
-    → ((k : ℕ) → k < c.site.signs → shown (k + 1) ≡ cond (moves call) (face_due (view (sign_group c k) d) (takes (k + 1))) (face (k + 1)))
-    → SameTaking takes after
+    → Acted lent call c d takes face shown → SameTaking takes after
     → (s : Site) (h : List Call) → Reached s takes h c face → Reached s after (h ++ made lent (call ∷ [])) d shown
-reached-more lent c d takes after face shown call site state faces same s h r =
+reached-more lent c d takes after face shown call acted same s h r =
     subst (λ x. Reached x after (h ++ made lent (call ∷ [])) d shown) r.site
-    (same-site lent c d takes after face shown call site state faces same h (subst (λ x. Reached x takes h c face) (sym r.site) r))
+    (same-site lent c d takes after face shown call acted same h (subst (λ x. Reached x takes h c face) (sym r.site) r))
 
 -- nothing is due to any group as service opens
 opening-due : (n i : ℕ) → due_number (get_or (replicate n opening_group) i absent) ≡ None

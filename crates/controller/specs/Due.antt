@@ -1,5 +1,5 @@
 -- What is due to a group, and what its signs then show.
-use Rattle.std.specs.Prelude.{ℕ, ◌-◌, Bool, false, cond, ◌&&◌, List, Some, None, Option, slice_index, slice_index_or}
+use Rattle.std.specs.Prelude.{ℕ, ◌-◌, Bool, false, cond, ◌&&◌, List, length, Some, None, Option, slice_index, slice_index_or}
 use Rattle.rack.specs.declared.look.Shape.{Shape}
 use Rattle.rack.specs.Face.{Face, dark, has}
 use Rattle.records.specs.declared.frame.Frame.{Frame}
@@ -55,4 +55,4 @@ sign_group c k = slice_index c.site.sign_groups k
 
 -- The frame that an attached sign shows; a sign that is not attached shows none.
 abbrev pub shown_on : Controller → (ℕ → Shape → Bool) → ℕ → Option Frame
-shown_on c takes s = cond (has c.site.signs s) (shown_by (takes s) (frame_due (view (sign_group c (s - 1)) c))) None
+shown_on c takes s = cond (has (length c.site.sign_groups) s) (shown_by (takes s) (frame_due (view (sign_group c (s - 1)) c))) None

@@ -1,14 +1,14 @@
 -- The fault log: what a change of a sign's error code puts into it.
 use Rattle.std.specs.Prelude.{ℕ, ◌+◌, ◌%◌, cond, List, ◌==◌}
 use Rattle.calendar.specs.declared.date_time.DateTime.{DateTime}
-use Rattle.journal.specs.Logs.{empty, grown, written}
+use Rattle.journal.specs.Logs.{grown, written}
 use Rattle.replies.specs.declared.logs.FaultEntry.{FaultEntry}
 use Rattle.replies.specs.declared.logs.FaultEvent.{FaultEvent}
 use Rattle.replies.specs.declared.logs.FaultEvent.TheVariants.{Onset, Clearance}
 use Rattle.controller.specs.declared.faults.FaultLog.{FaultLog}
 
 abbrev pub no_faults : FaultLog
-no_faults = record { journal = empty; next_entry = 0 }
+no_faults = record { journal = 0; next_entry = 0 }
 
 -- One entry more, under the next number; after 255 comes 0.
 abbrev pub counted : FaultLog → FaultLog

@@ -1,6 +1,8 @@
 pub mod Calls
 pub mod Due
+pub mod Faces
 pub mod Faults
+pub mod Groups
 pub mod Messages
 pub mod Run
 pub mod Site

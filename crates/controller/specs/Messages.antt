@@ -3,7 +3,6 @@ use Rattle.std.specs.Prelude.{ℕ, List, Some, None, Option}
 use Rattle.calendar.specs.declared.clock.Clock.{Clock}
 use Rattle.calendar.specs.Clocks.{set_to}
 use Rattle.commands.specs.Sent.{Sent, start_session, password, heartbeat, end_session, set_time, text, graphic, message, plan, group_order, enabled_plans, stored_record, fault_log, empty_fault_log, order_log, readings, list_stored, refused}
-use Rattle.journal.specs.Logs.{empty}
 use Rattle.judging.specs.Conditions.{Asked, asked, nothing, right_password, open_session, open_and_time, open_and_stored, other_form}
 use Rattle.judging.specs.Effects.{session_after}
 use Rattle.judging.specs.Judgements.{Judgement, accepted, rejected, judged}
@@ -17,7 +16,7 @@ use Rattle.controller.specs.declared.site.Site.{Site}
 
 -- The verdict on a message.
 abbrev pub verdict_on : Site → Common → List ℕ → Judgement
-verdict_on s c m = judged c.session s.seed_offset s.password_offset c.store m
+verdict_on s c m = judged c.session s.offsets c.store m
 
 -- A storing command puts its record into the store.
 abbrev pub put_in : Option AnyRecord → Store → Store
@@ -43,18 +42,18 @@ clock_after (rejected r) c = c
 
 -- Emptying the fault log; its numbering goes on.
 abbrev pub empty_log : FaultLog → FaultLog
-empty_log l = record { journal = empty; next_entry = l.next_entry }
+empty_log l = record { journal = 0; next_entry = l.next_entry }
 
 abbrev pub emptied_by : Sent → FaultLog → FaultLog
 emptied_by start_session l = l
 emptied_by (password w) l = l
 emptied_by heartbeat l = l
 emptied_by end_session l = l
-emptied_by (set_time d m y h i s) l = l
-emptied_by (text n r f c b t k) l = l
-emptied_by (graphic n r rows columns b p k) l = l
-emptied_by (message n r spans k) l = l
-emptied_by (plan n r days lines k) l = l
+emptied_by (set_time t) l = l
+emptied_by (text h f c b t) l = l
+emptied_by (graphic h rows columns b p) l = l
+emptied_by (message h spans) l = l
+emptied_by (plan h days lines) l = l
 emptied_by (group_order o g x) l = l
 emptied_by enabled_plans l = l
 emptied_by (stored_record k n) l = l

@@ -1,19 +1,19 @@
 -- What a status reply tells of the controller and its signs.
-use Rattle.std.specs.Prelude.{ℕ, zero, suc, ◌+◌, Bool, List, [], ◌∷◌, ◌++◌, Some, None, Option, slice_index}
+use Rattle.std.specs.Prelude.{ℕ, zero, suc, ◌+◌, Bool, List, [], ◌∷◌, ◌++◌, length, Some, None, Option, slice_index}
 use Rattle.rack.specs.declared.look.Shape.{Shape}
 use Rattle.records.specs.declared.frame.Frame.{Frame}
 use Rattle.records.specs.Stores.{checksum_of}
 use Rattle.replies.specs.declared.status.Named.{Named}
 use Rattle.replies.specs.declared.status.Row.{Row}
-use Rattle.replies.specs.Status.{unnamed, status_reply}
+use Rattle.replies.specs.Status.{status_reply}
 use Rattle.session.specs.Sessions.{is_open}
 use Rattle.controller.specs.declared.service.Controller.{Controller}
 use Rattle.controller.specs.Due.{group_at, sign_group, shown_on}
 
 -- the number and revision of a frame that is shown
-abbrev pub name_of : Option Frame → Named
-name_of None = unnamed
-name_of (Some f) = record { number = f.number; revision = f.revision }
+abbrev pub name_of : Option Frame → Option Named
+name_of None = None
+name_of (Some f) = Some (record { number = f.header.number; revision = f.header.revision })
 
 -- A row names the frame that its sign shows; no message and no plan is due to any group yet.
 abbrev pub row_at : Controller → (ℕ → Shape → Bool) → ℕ → Row
@@ -22,8 +22,8 @@ row_at c takes k = record {
   error_code = slice_index c.common.error_codes k;
   enabled = (group_at c.groups (sign_group c k)).enabled;
   frame = name_of (shown_on c takes (k + 1));
-  message = unnamed;
-  plan = unnamed;
+  message = None;
+  plan = None;
 }
 
 -- the rows of the first n signs
@@ -36,4 +36,4 @@ abbrev pub status_of : Controller → (ℕ → Shape → Bool) → ℕ → List 
 status_of c takes error =
     status_reply
     (record { online = is_open c.common.session; application_error = error; at = c.common.clock.shown; checksum = checksum_of c.common.store })
-    (rows_up_to c takes c.site.signs)
+    (rows_up_to c takes (length c.site.sign_groups))

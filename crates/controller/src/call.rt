@@ -1,7 +1,10 @@
 ghost use Rattle.std.specs.Prelude.{◌≡◌};
 ghost use Rattle.controller.specs.Calls.{number};
+ghost use Rattle.controller.specs.declared.call.CallRefusal.TheVariants.{ShortMemory, UnfitReading};
 
 use analog::Reading;
+use std::error::Error;
+use std::fmt;
 
 // One call of the site on its controller in service.
 #[derive(Clone, Copy)]
@@ -20,22 +23,45 @@ pub enum Call {
 }
 
 // Why a call was not made.
-#[derive(Clone, Copy)]
+#[derive(Clone, Copy, Debug, PartialEq, Eq)]
 pub enum CallRefusal {
-    ShortMemory,
-    NotAttached,
-    UnfitReading,
+    ShortMemory = 0x52,
+    NotAttached = 0x53,
+    UnfitReading = 0x54,
 }
 
-impl CallRefusal {
-    // The refusal's number.
-    pub fn code(self) -> u8
-        ensures { result ≡ number self }
-    {
-        match self {
-            CallRefusal::ShortMemory => 0x52,
-            CallRefusal::NotAttached => 0x53,
-            CallRefusal::UnfitReading => 0x54,
-        }
+impl From<CallRefusal> for u8 {
+    ghost from_gives = { λ refusal n. n ≡ number refusal };
+
+    fn from(refusal: CallRefusal) -> u8 {
+        refusal as u8
     }
 }
+
+impl From<journal::Refusal> for CallRefusal {
+    ghost from_gives = { λ _ refusal. refusal ≡ ShortMemory };
+
+    fn from(_refusal: journal::Refusal) -> CallRefusal {
+        CallRefusal::ShortMemory
+    }
+}
+
+impl From<analog::Refusal> for CallRefusal {
+    ghost from_gives = { λ _ refusal. refusal ≡ UnfitReading };
+
+    fn from(_refusal: analog::Refusal) -> CallRefusal {
+        CallRefusal::UnfitReading
+    }
+}
+
+impl fmt::Display for CallRefusal {
+    fn fmt<W: fmt::Write>(&self, f: &mut fmt::Formatter<W>) -> fmt::Result {
+        f.write_str(match self {
+            CallRefusal::ShortMemory => "too little memory is lent",
+            CallRefusal::NotAttached => "the sign is not attached",
+            CallRefusal::UnfitReading => "the reading does not fit",
+        })
+    }
+}
+
+impl Error for CallRefusal {}

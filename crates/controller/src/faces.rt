@@ -1,7 +1,8 @@
-ghost use Rattle.std.specs.Prelude.{◌≡◌, ℕ, ◌+◌, ◌<◌, ◌≤◌};
+ghost use Rattle.std.specs.Prelude.{◌≡◌, ℕ};
 ghost use Rattle.std.specs.Option.{option_map};
-ghost use Rattle.rack.specs.Face.{Face, dark, Elsewhere, SameTaking};
-ghost use Rattle.controller.specs.Due.{view, face_of, shown_by, face_due, sign_group};
+ghost use Rattle.rack.specs.Face.{Face, dark, Elsewhere};
+ghost use Rattle.controller.specs.Due.{face_of, shown_by};
+ghost use Rattle.controller.specs.Faces.{SameSigns, Settled};
 
 use crate::service::Controller;
 use rack::interface::Rack;
@@ -11,8 +12,7 @@ use records::frame::Frame;
 pub fn refresh<R: Rack>(rack: &mut R, sign: u8, due: Option<&Frame>)
     ensures face { R.face rack.new sign ≡ face_of (shown_by (R.takes rack.old sign) (option_map (λ x. x.now) due.entry)) }
     ensures others { Elsewhere (R.face rack.old) (R.face rack.new) sign }
-    ensures taking { SameTaking (R.takes rack.old) (R.takes rack.new) }
-    ensures count { R.signs rack.new ≡ R.signs rack.old }
+    ensures same { SameSigns (R.signs rack.old) (R.signs rack.new) (R.takes rack.old) (R.takes rack.new) }
 {
     let shown = match due {
         Some(frame) => rack.show(sign, frame.look, frame.picture()).is_ok(),
@@ -25,25 +25,21 @@ pub fn refresh<R: Rack>(rack: &mut R, sign: u8, due: Option<&Frame>)
 
 // Brings every attached sign to the face that is due to it.
 pub fn settle<R: Rack>(controller: &Controller, rack: &mut R)
-    ensures faces { (k : ℕ) → k < controller.now.site.signs → R.face rack.new (k + 1) ≡ face_due (view (sign_group controller.now k) controller.now) (R.takes rack.old (k + 1)) }
-    ensures others { (k : ℕ) → controller.now.site.signs ≤ k → R.face rack.new (k + 1) ≡ R.face rack.old (k + 1) }
-    ensures taking { SameTaking (R.takes rack.old) (R.takes rack.new) }
-    ensures count { R.signs rack.new ≡ R.signs rack.old }
+    ensures settled { Settled controller.now (R.takes rack.old) (R.face rack.old) (R.face rack.new) }
+    ensures same { SameSigns (R.signs rack.old) (R.signs rack.new) (R.takes rack.old) (R.takes rack.new) }
 {
-    for k in 0..controller.site.signs {
-        let group = controller.site.sign_groups[k as usize];
-        refresh(rack, k + 1, controller.frame_due(group));
+    let groups = controller.site.sign_groups.as_slice();
+    for (place, group) in groups.iter().enumerate() {
+        refresh(rack, place as u8 + 1, controller.frame_due(*group));
     }
 }
 
 // Darkens every sign of a rack.
 pub fn darken_all<R: Rack>(rack: &mut R)
     ensures dark { (s : ℕ) → R.face rack.new s ≡ dark }
-    ensures taking { SameTaking (R.takes rack.old) (R.takes rack.new) }
-    ensures count { R.signs rack.new ≡ R.signs rack.old }
+    ensures same { SameSigns (R.signs rack.old) (R.signs rack.new) (R.takes rack.old) (R.takes rack.new) }
 {
-    let count = rack.sign_count();
-    for k in 0..count {
-        rack.darken(k + 1);
+    for sign in 1..=rack.sign_count() {
+        rack.darken(sign);
     }
 }

@@ -4,7 +4,6 @@ ghost use Rattle.judging.specs.Judgements.{judgement, accepted};
 ghost use Rattle.controller.specs.Messages.{obeyed, carried_out};
 
 use crate::common::Common;
-use calendar::DateTime;
 use commands::command::Command;
 use judging::effects::session_after;
 use judging::rejection::Rejection;
@@ -16,22 +15,7 @@ impl Common {
         ensures { self.new ≡ carried_out (values_of command.now) self.old }
     {
         match *command {
-            Command::SetTime {
-                day,
-                month,
-                year,
-                hours,
-                minutes,
-                seconds,
-            } => {
-                let time = DateTime {
-                    day,
-                    month,
-                    year,
-                    hour: hours,
-                    minute: minutes,
-                    second: seconds,
-                };
+            Command::SetTime(time) => {
                 let _ = self.clock.set(time);
             }
             Command::EmptyFaultLog => self.faults.journal.clear(),

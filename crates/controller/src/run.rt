@@ -1,5 +1,5 @@
 ghost use Rattle.std.specs.Prelude.{◌≡◌, ℕ, length};
-ghost use Rattle.rack.specs.Face.{SameTaking};
+ghost use Rattle.controller.specs.Faces.{SameSigns};
 ghost use Rattle.controller.specs.Run.{made, SignsShowDue, Reached};
 
 use crate::call::Call;
@@ -17,8 +17,7 @@ pub fn serve<R: Rack>(
 ) -> Controller
     ensures shows_due { SignsShowDue commissioning.site (R.takes rack.old) (made (length faults.old) calls.now) (R.face rack.new) }
     ensures reached { Reached commissioning.site (R.takes rack.new) (made (length faults.old) calls.now) result (R.face rack.new) }
-    ensures taking { SameTaking (R.takes rack.old) (R.takes rack.new) }
-    ensures count { R.signs rack.new ≡ R.signs rack.old }
+    ensures same { SameSigns (R.signs rack.old) (R.signs rack.new) (R.takes rack.old) (R.takes rack.new) }
 {
     let mut controller = commissioning.close(rack);
     for call in calls {

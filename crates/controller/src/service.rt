@@ -1,7 +1,7 @@
-ghost use Rattle.std.specs.Prelude.{◌≡◌, ℕ, ◌+◌, ◌<◌, ◌≤◌, List, length, is_ok, if◌then◌else◌};
+ghost use Rattle.std.specs.Prelude.{◌≡◌, ℕ, List, length, is_ok, if◌then◌else◌};
 ghost use Rattle.std.specs.Option.{option_map};
-ghost use Rattle.rack.specs.Face.{SameTaking};
-ghost use Rattle.controller.specs.Due.{view, frame_due, shown_by, shown_on, face_due, sign_group};
+ghost use Rattle.controller.specs.Due.{view, frame_due, shown_by, shown_on, sign_group};
+ghost use Rattle.controller.specs.Faces.{SameSigns, Settled};
 ghost use Rattle.controller.specs.Run.{after_tick, with_report, with_reading, faults_after, report_answer, reading_answer};
 
 use crate::call::CallRefusal;
@@ -28,10 +28,8 @@ impl Controller {
     // Takes a tick with its byte; faces follow.
     pub fn tick<R: Rack>(&mut self, rack: &mut R, byte: u8)
         ensures after { self.new ≡ record { site = self.old.site; common = after_tick self.old.site byte self.old.common; groups = self.old.groups } }
-        ensures faces { (k : ℕ) → k < self.new.site.signs → R.face rack.new (k + 1) ≡ face_due (view (sign_group self.new k) self.new) (R.takes rack.old (k + 1)) }
-        ensures others { (k : ℕ) → self.old.site.signs ≤ k → R.face rack.new (k + 1) ≡ R.face rack.old (k + 1) }
-        ensures taking { SameTaking (R.takes rack.old) (R.takes rack.new) }
-        ensures count { R.signs rack.new ≡ R.signs rack.old }
+        ensures settled { Settled self.new (R.takes rack.old) (R.face rack.old) (R.face rack.new) }
+        ensures same { SameSigns (R.signs rack.old) (R.signs rack.new) (R.takes rack.old) (R.takes rack.new) }
     {
         self.common.tick_byte = byte;
         self.common.clock.tick();
@@ -51,10 +49,8 @@ impl Controller {
         ensures after { self.new ≡ record { site = self.old.site; common = (if is_ok result then with_report sign code self.old.common else self.old.common); groups = self.old.groups } }
         ensures log { faults.new ≡ (if is_ok result then faults_after sign code self.old.common faults.old else faults.old) }
     {
-        if faults.len() < 20 {
-            return Err(CallRefusal::ShortMemory);
-        }
-        if sign == 0 || sign > self.site.signs {
+        Journal::<20>::judge(faults)?;
+        if self.site.group_of(sign).is_none() {
             return Err(CallRefusal::NotAttached);
         }
         let place = sign as usize - 1;
@@ -70,25 +66,15 @@ impl Controller {
         ensures result { result ≡ reading_answer slot reading state }
         ensures after { self.new ≡ record { site = self.old.site; common = with_reading slot reading state self.old.common; groups = self.old.groups } }
     {
-        match self.common.readings.set(slot, reading, state) {
-            Ok(()) => Ok(()),
-            Err(_) => Err(CallRefusal::UnfitReading),
-        }
+        Ok(self.common.readings.set(slot, reading, state)?)
     }
 
     // The frame that an attached sign shows.
     pub fn frame_shown<R: Rack>(&self, rack: &R, sign: u8) -> Option<&Frame>
         ensures { option_map (λ x. x.now) result ≡ shown_on self.now (R.takes rack.now) sign }
     {
-        if sign == 0 || sign > self.site.signs {
-            return None;
-        }
-        let group = self.site.sign_groups[sign as usize - 1];
-        let frame = self.frame_due(group)?;
-        if rack.accepts(sign, frame.shape()) {
-            Some(frame)
-        } else {
-            None
-        }
+        let group = self.site.group_of(sign)?;
+        self.frame_due(group)
+            .filter(|frame| rack.accepts(sign, frame.shape()))
     }
 }

@@ -1,31 +1,29 @@
-ghost use Rattle.std.specs.Prelude.{◌≡◌, replicate, MatchResult};
-ghost use Rattle.controller.specs.Site.{numbers_of};
+ghost use Rattle.std.specs.Prelude.{◌≡◌, replicate};
 ghost use Rattle.playback.specs.Sites.{TwoTextSigns, two_groups, unused};
 
 use calendar::Clock;
 use controller::commissioning::Commissioning;
-use rack::refusal::Refusal;
 use rack::text::TextRack;
 use replies::{FaultEntry, FaultEvent};
 
 // The rack of the programs' site: two text signs of 16 characters.
-pub fn text_rack() -> Result<TextRack, Refusal>
-    ensures { MatchResult result (λ k. TwoTextSigns k) (λ _. ⊥) }
+pub fn text_rack() -> TextRack
+    ensures { TwoTextSigns result }
 {
     let mut rack = TextRack::new();
-    rack.fit(16)?;
-    rack.fit(16)?;
-    Ok(rack)
+    rack.fit(16).unwrap();
+    rack.fit(16).unwrap();
+    rack
 }
 
 // The programs' site: sign 1 in group 1, sign 2 in group 2.
-pub fn commissioning() -> Result<Commissioning, Refusal>
-    ensures { MatchResult result (λ c. numbers_of c.site ≡ two_groups) (λ _. ⊥) }
+pub fn commissioning() -> Commissioning
+    ensures { result.site ≡ two_groups }
 {
     let mut site = Commissioning::new();
-    site.attach(1)?;
-    site.attach(2)?;
-    Ok(site)
+    site.attach(1).unwrap();
+    site.attach(2).unwrap();
+    site
 }
 
 // Memory for the fault log, not used yet.

@@ -8,27 +8,41 @@ use controller::service::Controller;
 use rack::lane::LaneRack;
 use rack::refusal::Refusal;
 use rack::text::TextRack;
+use std::fmt;
 
-fn print_number(rt: &HostRuntime, what: &str, answer: Result<u8, Refusal>) -> anyhow::Result<()> {
+// The number of a sign that was fitted or attached.
+#[derive(Clone, Copy)]
+struct Numbered(u8);
+
+impl fmt::Display for Numbered {
+    fn fmt<W: fmt::Write>(&self, f: &mut fmt::Formatter<W>) -> fmt::Result {
+        write!(f, "sign {}", self.0)
+    }
+}
+
+// Prints what a call answers, or the number of its refusal.
+fn print_answer<T, E>(rt: &HostRuntime, what: &str, answer: Result<T, E>) -> anyhow::Result<()>
+where
+    T: fmt::Display + Drop,
+    E: Drop,
+    u8: From<E>,
+{
     match answer {
-        Ok(sign) => println!(rt; "{what}: sign {sign}")?,
+        Ok(done) => println!(rt; "{what}: {done}")?,
         Err(refusal) => {
-            let code = refusal.code();
-            println!(rt; "{what}: refused {code:02X}")?;
+            let number = u8::from(refusal);
+            println!(rt; "{what}: refused {number:02X}")?;
         }
     }
     Ok(())
 }
 
+fn print_number(rt: &HostRuntime, what: &str, answer: Result<u8, Refusal>) -> anyhow::Result<()> {
+    print_answer(rt, what, answer.map(Numbered))
+}
+
 fn print_set(rt: &HostRuntime, what: &str, answer: Result<(), Refusal>) -> anyhow::Result<()> {
-    match answer {
-        Ok(()) => println!(rt; "{what}: set")?,
-        Err(refusal) => {
-            let code = refusal.code();
-            println!(rt; "{what}: refused {code:02X}")?;
-        }
-    }
-    Ok(())
+    print_answer(rt, what, answer.map(|()| "set"))
 }
 
 fn print_report(
@@ -36,14 +50,7 @@ fn print_report(
     what: &str,
     answer: Result<(), CallRefusal>,
 ) -> anyhow::Result<()> {
-    match answer {
-        Ok(()) => println!(rt; "{what}: taken")?,
-        Err(refusal) => {
-            let code = refusal.code();
-            println!(rt; "{what}: refused {code:02X}")?;
-        }
-    }
-    Ok(())
+    print_answer(rt, what, answer.map(|()| "taken"))
 }
 
 fn text_signs(rt: &HostRuntime) -> anyhow::Result<()> {

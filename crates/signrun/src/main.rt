@@ -3,7 +3,8 @@
 
 use controller::run;
 use controller::service::Controller;
-use playback::{input, lines, site};
+use playback::lines::SignLine;
+use playback::{input, site};
 use rack::text::TextRack;
 use std::io::Read;
 
@@ -11,23 +12,27 @@ fn main(rt: HostRuntime) -> anyhow::Result<()> {
     let mut bytes = Vec::new(rt.alloc());
     rt.stdin().read_to_end(&mut bytes)?;
     let calls = input::read_calls(rt.alloc(), bytes.as_slice())?;
-    let Ok(mut rack) = site::text_rack() else {
-        unreachable()
-    };
-    let Ok(commissioning) = site::commissioning() else {
-        unreachable()
-    };
+    let mut rack = site::text_rack();
     let mut faults = site::fault_memory();
-    let controller = run::serve(commissioning, &mut rack, calls.as_slice(), &mut faults);
+    let controller = run::serve(
+        site::commissioning(),
+        &mut rack,
+        calls.as_slice(),
+        &mut faults,
+    );
     print_signs(&rt, &controller, &rack)
 }
 
 // Prints a line for each attached sign.
 fn print_signs(rt: &HostRuntime, controller: &Controller, rack: &TextRack) -> anyhow::Result<()> {
-    for k in 0..controller.site.signs {
-        let group = controller.site.sign_groups[k as usize];
-        let shown = controller.frame_shown(rack, k + 1);
-        let line = lines::sign_line(rt.alloc(), k + 1, group, shown)?;
+    let groups = controller.site.sign_groups.as_slice();
+    for (place, group) in groups.iter().enumerate() {
+        let sign = place as u8 + 1;
+        let line = SignLine {
+            sign,
+            group: *group,
+            shown: controller.frame_shown(rack, sign),
+        };
         println!(rt; "{line}")?;
     }
     Ok(())

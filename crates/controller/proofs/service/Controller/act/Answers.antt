@@ -15,16 +15,17 @@ returns-in-Report g c =
     let is = c.in-Report.is in
     record {
       result = e.result ∙ sym (ap (answer ctl.site lent) is);
-      site = ap (λ x. x.site) e.after;
-      state = λ k. ap (view k) e.after
-          ∙ (ap (λ r. record { common = cond (is_ok r) (with_report sign code ctl.common) ctl.common; group = group_at ctl.groups k }) e.result
-          ∙ (report-state (view k ctl) sign code (leb 20 lent) (has ctl.site.signs sign)
-          ∙ sym (ap (λ x. cond (is_made lent x) (step ctl.site (view k ctl) x) (view k ctl)) is)));
+      acted = record {
+        site = ap (λ x. x.site) e.after;
+        state = λ k. ap (view k) e.after
+            ∙ (ap (λ r. record { common = cond (is_ok r) (with_report sign code ctl.common) ctl.common; group = group_at ctl.groups k }) e.result
+            ∙ (report-state (view k ctl) sign code (leb 20 lent) (has (length ctl.site.sign_groups) sign)
+            ∙ sym (ap (λ x. cond (is_made lent x) (step ctl.site (view k ctl) x) (view k ctl)) is)));
+        attached = λ k h. sym (ap (λ x. cond (moves x) (face_due (view (sign_group ctl k) c.report.new.self) (g.R.Rack.takes c.args.rack.now (k + 1))) (g.R.Rack.face c.args.rack.now (k + 1))) is);
+        others = λ k h. refl;
+      };
       memory = e.log
           ∙ (ap (λ r. cond (is_ok r) (faults_after sign code ctl.common c.args.faults.now) c.args.faults.now) e.result
           ∙ sym (ap (λ x. memory_after ctl.site ctl.common x c.args.faults.now) is));
-      faces = λ k h. sym (ap (λ x. cond (moves x) (face_due (view (sign_group ctl k) c.report.new.self) (g.R.Rack.takes c.args.rack.now (k + 1))) (g.R.Rack.face c.args.rack.now (k + 1))) is);
-      others = λ k h. refl;
-      taking = λ s h. refl;
-      count = refl;
+      same = record { count = refl; taking = λ s h. refl };
     }
