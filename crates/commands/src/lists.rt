@@ -15,7 +15,7 @@ pub struct Time {
     pub minute: u8,
 }
 
-// An entry of a plan as sent.
+// An entry of a plan as sent. Its kind is a byte, since an unknown one is refused only in its turn, among the values.
 #[derive(Clone, Copy, Debug, PartialEq, Eq, Default)]
 pub struct Line {
     pub kind: u8,

@@ -22,6 +22,10 @@ use Rattle.controller.specs.State.{opening_common, opening_group}
 abbrev pub opening : Site → Controller
 opening s = record { site = s; common = opening_common; groups = replicate 12 opening_group }
 
+-- the controller with another common part
+abbrev pub with_common : Controller → Common → Controller
+with_common c x = record { site = c.site; common = x; groups = c.groups }
+
 -- A tick brings the newest tick byte and adds a second to the clock and to an open session's silence.
 abbrev pub after_tick : Site → ℕ → Common → Common
 after_tick s b c = record {

@@ -37,7 +37,8 @@ impl Controller {
         }
     }
 
-    // Takes one call. The history of a run grows by a call that is made, whatever it answers.
+    // Takes one call. The history of a run grows by a call that is made, whatever it answers. The rack and the memory are
+    // the site's own, lent with each call.
     pub fn take<R: Rack>(
         &mut self,
         rack: &mut R,

@@ -14,6 +14,7 @@ pub struct Common {
     pub session: Session,
     pub clock: Clock,
     pub tick_byte: u8,
+    // a sign's code is any byte, as the sign gave it, and 0 is no error
     pub error_codes: [u8; 12],
     pub readings: Readings,
     pub faults: FaultLog,

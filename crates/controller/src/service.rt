@@ -2,7 +2,7 @@ ghost use Rattle.std.specs.Prelude.{◌≡◌, ℕ, List, length, is_ok, if◌th
 ghost use Rattle.std.specs.Option.{option_map};
 ghost use Rattle.controller.specs.Due.{view, frame_due, shown_by, shown_on, sign_group};
 ghost use Rattle.controller.specs.Faces.{SameSigns, Settled};
-ghost use Rattle.controller.specs.Run.{after_tick, with_report, with_reading, faults_after, report_answer, reading_answer};
+ghost use Rattle.controller.specs.Run.{with_common, after_tick, with_report, with_reading, faults_after, report_answer, reading_answer};
 
 use crate::call::CallRefusal;
 use crate::common::Common;
@@ -27,7 +27,7 @@ pub struct Controller {
 impl Controller {
     // Takes a tick with its byte; faces follow.
     pub fn tick<R: Rack>(&mut self, rack: &mut R, byte: u8)
-        ensures after { self.new ≡ record { site = self.old.site; common = after_tick self.old.site byte self.old.common; groups = self.old.groups } }
+        ensures after { self.new ≡ with_common self.old (after_tick self.old.site byte self.old.common) }
         ensures settled { Settled self.new (R.takes rack.old) (R.face rack.old) (R.face rack.new) }
         ensures same { SameSigns (R.signs rack.old) (R.signs rack.new) (R.takes rack.old) (R.takes rack.new) }
     {
@@ -46,7 +46,7 @@ impl Controller {
         faults: &mut [FaultEntry],
     ) -> Result<(), CallRefusal>
         ensures result { result ≡ report_answer self.old.site sign (length faults.old) }
-        ensures after { self.new ≡ record { site = self.old.site; common = (if is_ok result then with_report sign code self.old.common else self.old.common); groups = self.old.groups } }
+        ensures after { self.new ≡ with_common self.old (if is_ok result then with_report sign code self.old.common else self.old.common) }
         ensures log { faults.new ≡ (if is_ok result then faults_after sign code self.old.common faults.old else faults.old) }
     {
         Journal::<20>::judge(faults)?;
@@ -64,7 +64,7 @@ impl Controller {
     // Takes a reading for a slot, with its state; no face depends on it.
     pub fn read_in(&mut self, slot: u8, reading: Reading, state: u8) -> Result<(), CallRefusal>
         ensures result { result ≡ reading_answer slot reading state }
-        ensures after { self.new ≡ record { site = self.old.site; common = with_reading slot reading state self.old.common; groups = self.old.groups } }
+        ensures after { self.new ≡ with_common self.old (with_reading slot reading state self.old.common) }
     {
         Ok(self.common.readings.set(slot, reading, state)?)
     }

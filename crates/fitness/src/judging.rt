@@ -14,7 +14,7 @@ pub enum Place {
 }
 
 // Beacons 0 to 5 in bits 0 to 2, annulus 0 to 2 in bits 3 and 4, the rest zero; characters 20h to 7Eh.
-// One decision over ranges and a guard serves both, as the rules ask.
+// One decision over ranges and a guard serves both.
 pub fn byte_fits(place: Place, byte: u8) -> bool
     ensures { result ≡ byte_fits place byte }
 {

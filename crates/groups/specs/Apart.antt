@@ -1,12 +1,11 @@
 -- Enabled plans that share no minute, and what is due by them.
-use Rattle.std.specs.Prelude.{◌≡◌, ℕ, ◌%◌, ◌<◌, Bool, true, false, ◌&&◌, List, is_some, Some, None, Option, ◌≢◌, slice_index_or}
+use Rattle.std.specs.Prelude.{◌≡◌, ℕ, ◌<◌, Bool, true, false, ◌&&◌, List, is_some, Some, None, Option, ◌≢◌, slice_index_or}
 use Rattle.calendar.specs.declared.date_time.DateTime.{DateTime}
-use Rattle.calendar.specs.Moments.{day_number, minute_of_day, second_of_day}
 use Rattle.records.specs.declared.store.Store.{Store}
 use Rattle.records.specs.Slots.{slot_of}
 use Rattle.groups.specs.declared.due.Due.{Due}
 use Rattle.groups.specs.declared.group.GroupRecord.{GroupRecord}
-use Rattle.groups.specs.Due.{entry_of, slot_due, where_kept}
+use Rattle.groups.specs.Due.{entry_of, moment_of, slot_due, where_kept}
 
 -- the plan of a slot has an entry at a minute of a weekday
 abbrev pub runs_at : Store → ℕ → ℕ → Option ℕ → Bool
@@ -21,4 +20,4 @@ Apart s xs = (i j w m : ℕ) → i < j → runs_at s w m (slice_index_or xs i No
 -- minute is due.
 abbrev pub AnyOrder : Store → DateTime → GroupRecord → Option Due → Type 0
 AnyOrder s t g r = Apart s g.plans → g.direct ≡ None → (g.powered && g.enabled) ≡ true
-    → (i : ℕ) (d : Due) → slot_due s (day_number t % 7) (minute_of_day t) (second_of_day t) (slice_index_or g.plans i None) ≡ Some d → r ≡ where_kept s (Some d)
+    → (i : ℕ) (d : Due) → slot_due s (moment_of t) (slice_index_or g.plans i None) ≡ Some d → r ≡ where_kept s (Some d)

@@ -6,55 +6,55 @@ use Rattle.records.specs.declared.frame.Frame.{Frame as TheFrame}
 use Rattle.records.specs.declared.message.Message.{Message as TheMessage}
 use Rattle.records.specs.declared.plan.Entry.{Entry}
 use Rattle.records.specs.declared.plan.Plan.{Plan as ThePlan}
+use Rattle.records.specs.declared.plan.Shows.{Shows}
 use Rattle.records.specs.declared.plan.Shows.TheVariants.{Frame as shows_frame, Message as shows_message}
 use Rattle.records.specs.declared.store.Store.{Store}
 use Rattle.records.specs.Messages.{frame_at}
 use Rattle.records.specs.Plans.{entry_at}
 use Rattle.records.specs.Slots.{slot_of}
 use Rattle.groups.specs.declared.due.Due.{Due}
+use Rattle.groups.specs.declared.due.Moment.{Moment}
 use Rattle.groups.specs.declared.due.Wanted.{Wanted}
 use Rattle.groups.specs.declared.due.Wanted.TheVariants.{Frame, Message}
 use Rattle.groups.specs.declared.group.Direct.{Direct}
-use Rattle.groups.specs.declared.group.DirectOrder.TheVariants.{Frame as order_frame, Message as order_message}
 use Rattle.groups.specs.declared.group.GroupRecord.{GroupRecord}
+
+-- what is shown, if since so many seconds
+abbrev pub wanted : Shows → ℕ → Wanted
+wanted (shows_frame n) age = Frame n
+wanted (shows_message n) age = Message n age
 
 -- what a direct order asks for
 abbrev pub ordered : Direct → Due
-ordered d = elim d.order [
-  | order_frame n ↦ record { wanted = Frame n; plan = None }
-  | order_message n ↦ record { wanted = Message n d.age; plan = None }
-]
+ordered d = record { wanted = wanted d.shows d.age; plan = None }
 
--- what an entry shows at a second of the day; a message's age counts from the entry's start
-abbrev pub shown_by : Entry → ℕ → Wanted
-shown_by e second = elim e.shows [
-  | shows_frame n ↦ Frame n
-  | shows_message n ↦ Message n (second - 60 * e.start)
-]
+-- what plans go by at a date and time
+abbrev pub moment_of : DateTime → Moment
+moment_of t = record { weekday = day_number t % 7; minute = minute_of_day t; second = second_of_day t }
 
 -- the entry of a stored plan at a minute of a weekday
 abbrev pub entry_of : Option ThePlan → ℕ → ℕ → Option Entry
 entry_of None weekday minute = None
 entry_of (Some p) weekday minute = entry_at p weekday minute
 
+-- what an entry has due at a second of the day; a message's age counts from the entry's start
 abbrev pub entry_due : ℕ → ℕ → Option Entry → Option Due
 entry_due n second None = None
-entry_due n second (Some e) = Some (record { wanted = shown_by e second; plan = Some n })
+entry_due n second (Some e) = Some (record { wanted = wanted e.shows (second - 60 * e.start); plan = Some n })
 
 -- what the plan of a slot has due
-abbrev pub slot_due : Store → ℕ → ℕ → ℕ → Option ℕ → Option Due
-slot_due s weekday minute second None = None
-slot_due s weekday minute second (Some n) = entry_due n second (entry_of (slot_of s.plans n) weekday minute)
+abbrev pub slot_due : Store → Moment → Option ℕ → Option Due
+slot_due s m None = None
+slot_due s m (Some n) = entry_due n m.second (entry_of (slot_of s.plans n) m.weekday m.minute)
 
 -- what the first of several has due that has something due
-abbrev pub first_due : Store → ℕ → ℕ → ℕ → List (Option ℕ) → Option Due
-first_due s weekday minute second [] = None
-first_due s weekday minute second (x ∷ xs) =
-    cond (is_some (slot_due s weekday minute second x)) (slot_due s weekday minute second x) (first_due s weekday minute second xs)
+abbrev pub first_due : Store → Moment → List (Option ℕ) → Option Due
+first_due s m [] = None
+first_due s m (x ∷ xs) = cond (is_some (slot_due s m x)) (slot_due s m x) (first_due s m xs)
 
 -- what the enabled plans have due at a date and time
 unfoldable pub planned : Store → DateTime → List (Option ℕ) → Option Due
-planned s t plans = first_due s (day_number t % 7) (minute_of_day t) (second_of_day t) plans
+planned s t plans = first_due s (moment_of t) plans
 
 -- the direct order comes before the plans
 abbrev pub wanted_of : Store → DateTime → GroupRecord → Option Due

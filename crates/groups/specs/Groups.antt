@@ -1,7 +1,7 @@
 -- The record of a group, and the record with one thing of it altered.
 use Rattle.std.specs.Prelude.{ℕ, ◌+◌, min, Bool, true, List, Some, None, Option}
 use Rattle.groups.specs.declared.group.Direct.{Direct}
-use Rattle.groups.specs.declared.group.DirectOrder.{DirectOrder}
+use Rattle.records.specs.declared.plan.Shows.{Shows}
 use Rattle.groups.specs.declared.group.GroupRecord.{GroupRecord}
 use Rattle.groups.specs.Plans.{no_plans}
 
@@ -22,10 +22,10 @@ abbrev pub with_enabled : Bool → GroupRecord → GroupRecord
 with_enabled b g = record { direct = g.direct; plans = g.plans; powered = g.powered; enabled = b }
 
 -- an order that was accepted just now
-abbrev pub fresh : DirectOrder → Option Direct
-fresh o = Some (record { order = o; age = 0 })
+abbrev pub fresh : Shows → Option Direct
+fresh s = Some (record { shows = s; age = 0 })
 
 -- a tick later; the age stops at the greatest that it can have
 abbrev pub older : Option Direct → Option Direct
 older None = None
-older (Some d) = Some (record { order = d.order; age = min (d.age + 1) 4294967295 })
+older (Some d) = Some (record { shows = d.shows; age = min (d.age + 1) 4294967295 })

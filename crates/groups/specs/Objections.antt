@@ -1,5 +1,6 @@
 -- What can stand against an order to a group, and which of it decides.
 use Rattle.std.specs.Prelude.{◌≡◌, ℕ, Bool, true, false, cond, not, ◌&&◌, List, [], ◌∷◌, is_some, Some, None, Option, ◌==◌, nat_le}
+use Rattle.std.specs.List.{list_any}
 use Rattle.commands.specs.declared.command.Order.{Order}
 use Rattle.commands.specs.declared.command.Order.TheVariants.{Reset, Frame, Message, EnablePlan, DisablePlan, Power, Enable}
 use Rattle.records.specs.declared.plan.Plan.{Plan}
@@ -49,8 +50,7 @@ crosses s p (Some m) = sharing p (slot_of s.plans m)
 
 -- and with that of one of several
 abbrev pub crosses_any : Store → Plan → List (Option ℕ) → Bool
-crosses_any s p [] = false
-crosses_any s p (x ∷ xs) = cond (crosses s p x) true (crosses_any s p xs)
+crosses_any s p xs = list_any (λ x. crosses s p x) xs
 
 abbrev pub crossed : Store → Option Plan → List (Option ℕ) → Bool
 crossed s None xs = false

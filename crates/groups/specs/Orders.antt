@@ -2,7 +2,7 @@
 use Rattle.std.specs.Prelude.{ℕ, true, cond, None, ◌==◌}
 use Rattle.commands.specs.declared.command.Order.{Order}
 use Rattle.commands.specs.declared.command.Order.TheVariants.{Reset, Frame, Message, EnablePlan, DisablePlan, Power, Enable}
-use Rattle.groups.specs.declared.group.DirectOrder.TheVariants.{Frame as frame, Message as message}
+use Rattle.records.specs.declared.plan.Shows.TheVariants.{Frame as frame, Message as message}
 use Rattle.groups.specs.declared.group.GroupRecord.{GroupRecord}
 use Rattle.groups.specs.Groups.{with_direct, with_plans, with_power, with_enabled, fresh}
 use Rattle.groups.specs.Plans.{no_plans, including, without}

@@ -1,5 +1,7 @@
 -- The plans that are enabled in a group: their numbers in slots, in no order.
-use Rattle.std.specs.Prelude.{◌≡◌, ℕ, zero, suc, ◌+◌, ◌<◌, min, Bool, true, false, cond, List, [], ◌∷◌, map, replicate, Some, None, Option, ◌==◌, nat_lt}
+use Rattle.std.specs.Prelude.{◌≡◌, ℕ, zero, suc, ◌+◌, ◌<◌, min, Bool, true, false, cond, List, [], ◌∷◌, map, replicate, is_some, Some, None, Option, ◌==◌, nat_lt}
+use Rattle.std.specs.List.{list_any, list_all, flat_map, filter, reduce}
+use Rattle.std.specs.Option.{option_to_list}
 
 abbrev pub no_plans : List (Option ℕ)
 no_plans = replicate 8 None
@@ -11,14 +13,11 @@ holds (Some m) n = m == n
 
 -- some slot has a plan
 abbrev pub includes : List (Option ℕ) → ℕ → Bool
-includes [] n = false
-includes (x ∷ xs) n = cond (holds x n) true (includes xs n)
+includes xs n = list_any (λ x. holds x n) xs
 
 -- no slot is free
 abbrev pub full : List (Option ℕ) → Bool
-full [] = true
-full (None ∷ xs) = false
-full (Some m ∷ xs) = full xs
+full xs = list_all is_some xs
 
 -- a plan in the first free slot
 abbrev pub put : List (Option ℕ) → ℕ → List (Option ℕ)
@@ -37,20 +36,9 @@ cleared n x = cond (holds x n) None x
 abbrev pub without : List (Option ℕ) → ℕ → List (Option ℕ)
 without xs n = map (cleared n) xs
 
--- the plan of a slot, if its number is above n
-abbrev pub above : Option ℕ → ℕ → Option ℕ
-above None n = None
-above (Some m) n = cond (nat_lt n m) (Some m) None
-
-abbrev pub lesser : Option ℕ → Option ℕ → Option ℕ
-lesser None y = y
-lesser (Some a) None = Some a
-lesser (Some a) (Some b) = Some (min a b)
-
 -- the least plan above n
 abbrev pub next_above : List (Option ℕ) → ℕ → Option ℕ
-next_above [] n = None
-next_above (x ∷ xs) n = lesser (above x n) (next_above xs n)
+next_above xs n = reduce min (filter (λ m. nat_lt n m) (flat_map option_to_list xs))
 
 -- the enabled plans among the k numbers that follow n, rising
 unfoldable pub enabled_after : List (Option ℕ) → ℕ → ℕ → List ℕ

@@ -10,4 +10,4 @@ pub mod due;
 pub mod group;
 pub mod obeying;
 pub mod objection;
-mod plans;
+pub mod plans;

@@ -2,8 +2,9 @@ ghost use Rattle.std.specs.Prelude.{◌≡◌};
 ghost use Rattle.groups.specs.Objections.{StaysApart};
 ghost use Rattle.groups.specs.Orders.{obeyed, reset};
 
-use crate::group::{DirectOrder, GroupRecord};
+use crate::group::GroupRecord;
 use commands::command::Order;
+use records::plan::Shows;
 
 impl GroupRecord {
     // Level 0 withdraws the direct order and enables the group; any other also disables its plans.
@@ -18,21 +19,16 @@ impl GroupRecord {
     }
 
     // Does what an accepted order asks.
+    #[tactic(auto, using(crate::proofs::Keeping::stays_apart))]
     pub fn obey(&mut self, order: Order, operand: u8)
         ensures after { self.new ≡ obeyed order operand self.old }
         ensures apart { StaysApart self.old order operand self.new }
     {
-        self.carry_out(order, operand);
-    }
-
-    fn carry_out(&mut self, order: Order, operand: u8)
-        ensures { self.new ≡ obeyed order operand self.old }
-    {
         match (order, operand) {
             (Order::Reset, level) => self.reset(level),
             (Order::Frame, 0) | (Order::Message, 0) => self.withdraw(),
-            (Order::Frame, number) => self.order(DirectOrder::Frame(number)),
-            (Order::Message, number) => self.order(DirectOrder::Message(number)),
+            (Order::Frame, number) => self.order(Shows::Frame(number)),
+            (Order::Message, number) => self.order(Shows::Message(number)),
             (Order::EnablePlan, plan) => self.enable_plan(plan),
             (Order::DisablePlan, 0) => self.disable_all_plans(),
             (Order::DisablePlan, plan) => self.disable_plan(plan),

@@ -1,32 +1,32 @@
 ghost use Rattle.std.specs.Prelude.{◌≡◌, [], ◌∷◌};
+ghost use Rattle.std.specs.Result.{result_err};
 ghost use Rattle.groups.specs.Objections.{number_of, operand_fits, record_kept, crosses, crosses_any, overlaps, ninth, against, first_of, objection_to};
 
 use crate::group::GroupRecord;
-use crate::plans;
+use crate::plans::EnabledPlans;
 use commands::command::Order;
 use records::plan::Plan;
 use records::store::Store;
+use thiserror::Error;
 
-// Why a group cannot take an order, in the order in which the grounds are checked.
-#[derive(Clone, Copy)]
+// Why a group cannot take an order, in the order in which the grounds are checked; each by the number that replies name.
+#[derive(Clone, Copy, Debug, PartialEq, Eq, Error)]
 pub enum Objection {
-    Unfit,
-    NotStored,
-    Overlap,
-    NinthPlan,
+    #[error("the order cannot have this operand")]
+    Unfit = 0x44,
+    #[error("what is to be shown or enabled is not stored")]
+    NotStored = 0x45,
+    #[error("two enabled plans would share a minute")]
+    Overlap = 0x46,
+    #[error("eight plans are enabled")]
+    NinthPlan = 0x47,
 }
 
-impl Objection {
-    // The number that the reply names.
-    pub fn code(self) -> u8
-        ensures { result ≡ number_of self }
-    {
-        match self {
-            Objection::Unfit => 0x44,
-            Objection::NotStored => 0x45,
-            Objection::Overlap => 0x46,
-            Objection::NinthPlan => 0x47,
-        }
+impl From<Objection> for u8 {
+    ghost from_gives = { λ objection n. n ≡ number_of objection };
+
+    fn from(objection: Objection) -> u8 {
+        objection as u8
     }
 }
 
@@ -58,24 +58,14 @@ fn record_kept(store: &Store, order: Order, operand: u8) -> bool
 fn crosses(store: &Store, plan: &Plan, slot: Option<u8>) -> bool
     ensures { result ≡ crosses store.now plan.now slot }
 {
-    let Some(number) = slot else {
-        return false;
-    };
-    match store.plan(number) {
-        Some(other) => plan.shares_minute(other),
-        None => false,
-    }
+    slot.and_then(|number| store.plan(number))
+        .is_some_and(|other| plan.shares_minute(other))
 }
 
-fn crosses_any(store: &Store, plan: &Plan, slots: &[Option<u8>; 8]) -> bool
-    ensures { result ≡ crosses_any store.now plan.now slots.now }
+fn crosses_any(store: &Store, plan: &Plan, plans: &EnabledPlans) -> bool
+    ensures { result ≡ crosses_any store.now plan.now plans.now }
 {
-    for slot in slots {
-        if crosses(store, plan, *slot) {
-            return true;
-        }
-    }
-    false
+    plans.slots.iter().any(|slot| crosses(store, plan, *slot))
 }
 
 impl GroupRecord {
@@ -83,48 +73,45 @@ impl GroupRecord {
     fn overlaps(&self, store: &Store, plan: u8) -> bool
         ensures { result ≡ overlaps store.now self.now plan }
     {
-        if self.is_enabled(plan) {
-            return false;
-        }
-        match store.plan(plan) {
-            Some(plan) => crosses_any(store, plan, &self.plans),
-            None => false,
-        }
+        !self.is_enabled(plan)
+            && store
+                .plan(plan)
+                .is_some_and(|plan| crosses_any(store, plan, &self.plans))
     }
 
     // Whether eight other plans are enabled.
     fn has_eight_others(&self, plan: u8) -> bool
         ensures { result ≡ ninth self.now plan }
     {
-        !self.is_enabled(plan) && plans::is_full(&self.plans)
+        !self.is_enabled(plan) && self.plans.is_full()
     }
 
     // What stands against enabling a plan that is stored.
-    fn object_to_plan(&self, store: &Store, plan: u8) -> Option<Objection>
-        ensures { result ≡ first_of (against store.now self.now Order.EnablePlan plan) (Objection.Overlap ∷ Objection.NinthPlan ∷ []) }
+    fn object_to_plan(&self, store: &Store, plan: u8) -> Result<(), Objection>
+        ensures { result_err result ≡ first_of (against store.now self.now Order.EnablePlan plan) (Objection.Overlap ∷ Objection.NinthPlan ∷ []) }
     {
         if self.overlaps(store, plan) {
-            Some(Objection::Overlap)
+            Err(Objection::Overlap)
         } else if self.has_eight_others(plan) {
-            Some(Objection::NinthPlan)
+            Err(Objection::NinthPlan)
         } else {
-            None
+            Ok(())
         }
     }
 
     // The first ground that stands against an order, if there is one.
-    pub fn object(&self, store: &Store, order: Order, operand: u8) -> Option<Objection>
-        ensures { result ≡ objection_to store.now self.now order operand }
+    pub fn object(&self, store: &Store, order: Order, operand: u8) -> Result<(), Objection>
+        ensures { result_err result ≡ objection_to store.now self.now order operand }
     {
         if !operand_fits(order, operand) {
-            return Some(Objection::Unfit);
+            return Err(Objection::Unfit);
         }
         if !record_kept(store, order, operand) {
-            return Some(Objection::NotStored);
+            return Err(Objection::NotStored);
         }
         match order {
             Order::EnablePlan => self.object_to_plan(store, operand),
-            _ => None,
+            _ => Ok(()),
         }
     }
 }

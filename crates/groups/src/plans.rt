@@ -1,95 +1,71 @@
-// The plans that are enabled in a group: their numbers, in eight slots.
 ghost use Rattle.std.specs.Prelude.{◌≡◌};
-ghost use Rattle.groups.specs.Plans.{holds, includes, full, put, cleared, without, above, lesser, next_above};
+ghost use Rattle.groups.specs.Plans.{no_plans, includes, full, put, without, next_above};
 
-// Whether a slot has this plan.
-fn holds(slot: Option<u8>, plan: u8) -> bool
-    ensures { result ≡ holds slot plan }
-{
-    match slot {
-        Some(number) => number == plan,
-        None => false,
-    }
+use std::marker::Model;
+
+// The plans that are enabled in a group: their numbers, in eight slots, in no order. It means the list of its slots.
+#[derive(Clone, Copy, Debug, PartialEq, Eq)]
+pub struct EnabledPlans {
+    pub slots: [Option<u8>; 8],
 }
 
-// Whether some slot has this plan.
-pub(crate) fn includes(slots: &[Option<u8>; 8], plan: u8) -> bool
-    ensures { result ≡ includes slots.now plan }
-{
-    for slot in slots {
-        if holds(*slot, plan) {
-            return true;
+impl Model for EnabledPlans {
+    ghost use Rattle.std.specs.Prelude.{◌≡◌, ℕ, List, Option, length};
+
+    ghost Value = { List (Option ℕ) };
+
+    ghost view = { λ plans. plans.slots };
+
+    ghost invariant = { λ plans. length plans.slots ≡ 8 };
+
+    ghost inverse = { λ xs. record { slots = xs } };
+}
+
+impl EnabledPlans {
+    pub(crate) fn new() -> EnabledPlans
+        ensures { result ≡ no_plans }
+    {
+        EnabledPlans { slots: [None; 8] }
+    }
+
+    // Whether some slot has this plan.
+    pub(crate) fn includes(&self, plan: u8) -> bool
+        ensures { result ≡ includes self.now plan }
+    {
+        self.slots.contains(&Some(plan))
+    }
+
+    pub(crate) fn is_full(&self) -> bool
+        ensures { result ≡ full self.now }
+    {
+        self.slots.iter().all(Option::is_some)
+    }
+
+    // Puts a plan into the first free slot, if there is one.
+    pub(crate) fn put(&mut self, plan: u8)
+        ensures { self.new ≡ put self.old plan }
+    {
+        if let Some(free) = self.slots.iter().position(Option::is_none) {
+            self.slots[free] = Some(plan);
         }
     }
-    false
-}
 
-pub(crate) fn is_full(slots: &[Option<u8>; 8]) -> bool
-    ensures { result ≡ full slots.now }
-{
-    for slot in slots {
-        if slot.is_none() {
-            return false;
-        }
+    // Frees each slot that has this plan.
+    pub(crate) fn remove(&mut self, plan: u8)
+        ensures { self.new ≡ without self.old plan }
+    {
+        self.slots = self.slots.map(|slot| slot.filter(|number| *number != plan));
     }
-    true
-}
 
-// Puts a plan into the first free slot, if there is one.
-pub(crate) fn put(slots: &mut [Option<u8>; 8], plan: u8)
-    ensures { slots.new ≡ put slots.old plan }
-{
-    for slot in slots.iter_mut() {
-        if slot.is_none() {
-            *slot = Some(plan);
-            return;
-        }
+    // The least plan above a number.
+    pub(crate) fn next_above(&self, number: u8) -> Option<u8>
+        ensures { result ≡ next_above self.now number }
+    {
+        self.slots
+            .iter()
+            .flatten()
+            .copied()
+            .filter(|plan| *plan > number)
+            .min()
     }
-}
-
-// A slot, freed if it has this plan.
-fn cleared(slot: Option<u8>, plan: u8) -> Option<u8>
-    ensures { result ≡ cleared plan slot }
-{
-    if holds(slot, plan) { None } else { slot }
-}
-
-// Frees each slot that has this plan.
-pub(crate) fn remove(slots: &mut [Option<u8>; 8], plan: u8)
-    ensures { slots.new ≡ without slots.old plan }
-{
-    for slot in slots.iter_mut() {
-        *slot = cleared(*slot, plan);
-    }
-}
-
-// The plan of a slot, if its number is above another.
-fn above(slot: Option<u8>, number: u8) -> Option<u8>
-    ensures { result ≡ above slot number }
-{
-    match slot {
-        Some(plan) if plan > number => Some(plan),
-        _ => None,
-    }
-}
-
-fn lesser(one: Option<u8>, other: Option<u8>) -> Option<u8>
-    ensures { result ≡ lesser one other }
-{
-    match (one, other) {
-        (Some(one), Some(other)) => Some(one.min(other)),
-        (Some(one), None) => Some(one),
-        (None, _) => other,
-    }
-}
-
-// The least plan above a number.
-pub(crate) fn next_above(slots: &[Option<u8>; 8], number: u8) -> Option<u8>
-    ensures { result ≡ next_above slots.now number }
-{
-    let mut least = None;
-    for slot in slots {
-        least = lesser(least, above(*slot, number));
-    }
-    least
 }

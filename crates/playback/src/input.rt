@@ -1,10 +1,22 @@
 ghost use Rattle.std.specs.Prelude.{◌≡◌, ℕ, List, IfOk};
 ghost use Rattle.std.specs.Iterator.{YieldsFirst, item_count};
-ghost use Rattle.playback.specs.Input.{calls_of};
+ghost use Rattle.playback.specs.Input.{first_call, calls_of};
 
 use controller::call::Call;
 use std::alloc::{AllocError, Global};
 use std::marker::Model;
+
+// The first call of recorded input and the number of its bytes; nothing where the input ends, is cut or says something else.
+pub fn first_call(bytes: &[u8]) -> Option<(Call, usize)>
+    ensures { result ≡ first_call bytes.now }
+{
+    match *bytes {
+        [0x42, byte, ..] => Some((Call::Line(byte), 2)),
+        [0x54, byte, ..] => Some((Call::Tick(byte), 2)),
+        [0x53, sign, code, ..] => Some((Call::Report { sign, code }, 3)),
+        _ => None,
+    }
+}
 
 // The calls of recorded input, up to its end, a cut or anything else.
 #[derive(Drop)]
@@ -34,19 +46,8 @@ impl<'a> Iterator for Calls<'a> {
     ghost remaining = { item_count calls_of };
 
     fn next(&mut self) -> Option<Call> {
-        let (call, rest) = match self.input {
-            [0x42, byte, rest @ ..] => (Call::Line(*byte), rest),
-            [0x54, byte, rest @ ..] => (Call::Tick(*byte), rest),
-            [0x53, sign, code, rest @ ..] => {
-                let call = Call::Report {
-                    sign: *sign,
-                    code: *code,
-                };
-                (call, rest)
-            }
-            _ => return None,
-        };
-        self.input = rest;
+        let (call, length) = first_call(self.input)?;
+        self.input = &self.input[length..];
         Some(call)
     }
 }

@@ -1,3 +1,4 @@
+pub mod Arrays
 pub mod Back
 pub mod Filled
 pub mod Keeping

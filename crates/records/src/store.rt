@@ -14,7 +14,7 @@ use commands::kind::RecordKind;
 use octets::Octets;
 use wire::check_word;
 
-// The frames, messages and plans that are kept, each kind numbered from 1 to 255.
+// The frames, messages and plans that are kept, each kind numbered from 1 to 255: fixed tables, for nothing allocates here.
 // No invariant says that each stands under its number, since it would bind whoever writes these public fields.
 #[derive(Drop)]
 pub struct Store {

@@ -1,33 +1,33 @@
 ghost use Rattle.std.specs.Prelude.{◌≤◌};
 
-use octets::Octets;
+use std::alloc::{AllocError, Global};
 use std::io;
 
-fn digit(b: u8) -> u8
+fn digit(byte: u8) -> u8
     ensures { result ≤ 15 }
 {
-    match b {
-        b'0'..=b'9' => b - b'0',
-        b'A'..=b'F' => b - b'A' + 10,
+    match byte {
+        b'0'..=b'9' => byte - b'0',
+        b'A'..=b'F' => byte - b'A' + 10,
         _ => 0,
     }
 }
 
-// Reads pairs of hex digits, at most 800.
-pub(crate) fn read_hex(text: &[u8]) -> Octets<800> {
-    let mut bytes = Octets::new();
-    for pair in text.chunks_exact(2) {
-        if let [high, low] = pair {
-            bytes.push(digit(*high) * 16 + digit(*low));
-        }
-    }
-    bytes
+// The bytes that pairs of hex digits spell.
+pub(crate) fn read_hex(alloc: Global, text: &str) -> Result<Vec<u8>, AllocError> {
+    text.as_bytes()
+        .chunks_exact(2)
+        .map(|pair| match *pair {
+            [high, low] => digit(high) * 16 + digit(low),
+            _ => 0,
+        })
+        .collect(alloc)
 }
 
-pub(crate) fn show_hex(rt: &HostRuntime, word: &str, bytes: &[u8]) -> io::Result<()> {
+pub(crate) fn show_hex(rt: &impl Print, word: &str, bytes: &[u8]) -> io::Result<()> {
     print!(rt; "{word} ")?;
-    for b in bytes {
-        print!(rt; "{b:02X}")?;
+    for byte in bytes {
+        print!(rt; "{byte:02X}")?;
     }
     println!(rt; "")
 }

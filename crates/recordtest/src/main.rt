@@ -5,50 +5,25 @@
 #![tactic(auto)]
 
 mod digits;
+mod refusal;
 
 use commands::command::Command;
 use commands::kind::RecordKind;
 use commands::parsing::parse;
-use commands::rejection::Rejection;
 use digits::{read_hex, show_hex};
 use fitness::judging::fits;
 use fitness::soundness::check_word_right;
 use records::any_record::AnyRecord;
-use records::plan::Shows;
+use records::plan::{Entry, Shows};
 use records::store::Store;
+use refusal::Refusal;
 use std::io;
-
-// Why a message is not taken.
-#[derive(Clone, Copy, Debug, PartialEq, Eq)]
-enum Refusal {
-    Formless(Rejection),
-    WrongCheckWord,
-    Unfit,
-    Overlap,
-}
-
-impl From<Rejection> for Refusal {
-    fn from(rejection: Rejection) -> Refusal {
-        Refusal::Formless(rejection)
-    }
-}
-
-impl From<Refusal> for u8 {
-    fn from(refusal: Refusal) -> u8 {
-        match refusal {
-            Refusal::Formless(rejection) => u8::from(rejection),
-            Refusal::WrongCheckWord => 0x43,
-            Refusal::Unfit => 0x44,
-            Refusal::Overlap => 0x46,
-        }
-    }
-}
 
 // The record that a message sets; none for a message that sets nothing.
 fn judge(message: &[u8]) -> Result<Option<AnyRecord>, Refusal> {
     let command = parse(message)?;
     if !check_word_right(message) {
-        return Err(Refusal::WrongCheckWord);
+        return Err(Refusal::CheckWord);
     }
     if !fits(&command) {
         return Err(Refusal::Unfit);
@@ -59,7 +34,7 @@ fn judge(message: &[u8]) -> Result<Option<AnyRecord>, Refusal> {
     }
 }
 
-// What a request for a listing draws.
+// Writes what a request for a listing draws.
 fn list(store: &Store, kind: u8, out: &mut [u8]) -> Option<usize> {
     match RecordKind::listed(kind) {
         Some(kind) => store.list(kind, out),
@@ -67,40 +42,44 @@ fn list(store: &Store, kind: u8, out: &mut [u8]) -> Option<usize> {
     }
 }
 
+// Writes the command of a stored record.
 fn stored(store: &Store, kind: u8, number: u8, out: &mut [u8]) -> Option<usize> {
     let kind = RecordKind::try_from(kind).ok()?;
     store.record_at(kind, number)?.write_command(out)
 }
 
-fn play(rt: &HostRuntime, store: &mut Store, message: &[u8]) -> io::Result<()> {
+// Writes what a message that sets nothing draws.
+fn answered(store: &Store, message: &[u8], out: &mut [u8]) -> Option<usize> {
+    match parse(message) {
+        Ok(Command::ListStored { kind }) => list(store, kind, out),
+        Ok(Command::StoredRecord { kind, number }) => stored(store, kind, number, out),
+        _ => Some(0),
+    }
+}
+
+fn play(rt: &impl Print, store: &mut Store, message: &[u8]) -> io::Result<()> {
     let mut out = [0; 800];
     match judge(message) {
-        Err(refusal) => {
-            let number = u8::from(refusal);
-            println!(rt; "rejected {number}")
-        }
+        Err(refusal) => println!(rt; "rejected {}", u8::from(refusal)),
         Ok(Some(kept)) => {
             store.put(kept);
-            match kept.write_command(&mut out) {
-                Some(n) if n <= 800 => show_hex(rt, "set", &out[0..n]),
-                _ => println!(rt; "no room"),
+            let count = kept.write_command(&mut out);
+            match count.and_then(|count| out.get(..count)) {
+                Some(command) => show_hex(rt, "set", command),
+                None => println!(rt; "no room"),
             }
         }
         Ok(None) => {
-            let written = match parse(message) {
-                Ok(Command::ListStored { kind }) => list(store, kind, &mut out),
-                Ok(Command::StoredRecord { kind, number }) => stored(store, kind, number, &mut out),
-                _ => Some(0),
-            };
-            match written {
-                Some(n) if n <= 800 => show_hex(rt, "accepted", &out[0..n]),
-                _ => println!(rt; "not stored"),
+            let count = answered(store, message, &mut out);
+            match count.and_then(|count| out.get(..count)) {
+                Some(reply) => show_hex(rt, "accepted", reply),
+                None => println!(rt; "not stored"),
             }
         }
     }
 }
 
-fn ask_age(rt: &HostRuntime, store: &Store, number: u8, age: u32) -> io::Result<()> {
+fn ask_age(rt: &impl Print, store: &Store, number: u8, age: u32) -> io::Result<()> {
     let frame = store
         .message(number)
         .and_then(|message| message.frame_at(age));
@@ -108,7 +87,7 @@ fn ask_age(rt: &HostRuntime, store: &Store, number: u8, age: u32) -> io::Result<
 }
 
 fn ask_entry(
-    rt: &HostRuntime,
+    rt: &impl Print,
     store: &Store,
     number: u8,
     weekday: u8,
@@ -118,32 +97,29 @@ fn ask_entry(
         .plan(number)
         .and_then(|plan| plan.entry_at(weekday, minute));
     match entry {
-        Some(entry) => match entry.shows {
-            Shows::Frame(n) => println!(rt; "frame {n} from {}", entry.start),
-            Shows::Message(n) => println!(rt; "message {n} from {}", entry.start),
+        Some(Entry { shows, start, .. }) => match shows {
+            Shows::Frame(n) => println!(rt; "frame {n} from {start}"),
+            Shows::Message(n) => println!(rt; "message {n} from {start}"),
         },
         None => println!(rt; "no entry"),
     }
 }
 
-fn ask_share(rt: &HostRuntime, store: &Store, one: u8, other: u8) -> io::Result<()> {
+fn ask_share(rt: &impl Print, store: &Store, one: u8, other: u8) -> io::Result<()> {
     match (store.plan(one), store.plan(other)) {
         (Some(one), Some(other)) => println!(rt; "{}", one.shares_minute(other)),
         _ => println!(rt; "not stored"),
     }
 }
 
-fn answer(rt: &HostRuntime, store: &mut Store, message: &[u8]) -> io::Result<()> {
-    match message {
-        [0xE0, number, a, b, c, d] => {
-            let age = u32::from_be_bytes([*a, *b, *c, *d]);
-            ask_age(rt, store, *number, age)
-        }
+fn answer(rt: &impl Print, store: &mut Store, message: &[u8]) -> io::Result<()> {
+    match *message {
+        [0xE0, number, a, b, c, d] => ask_age(rt, store, number, u32::from_be_bytes([a, b, c, d])),
         [0xE1, number, weekday, high, low] => {
-            let minute = u16::from_be_bytes([*high, *low]);
-            ask_entry(rt, store, *number, *weekday, minute)
+            let minute = u16::from_be_bytes([high, low]);
+            ask_entry(rt, store, number, weekday, minute)
         }
-        [0xE2, one, other] => ask_share(rt, store, *one, *other),
+        [0xE2, one, other] => ask_share(rt, store, one, other),
         [0xE3] => println!(rt; "checksum {}", store.checksum()),
         [0xE4] => println!(rt; "small {}", size_of::<Store>() <= 59 * 1024),
         _ => play(rt, store, message),
@@ -154,8 +130,8 @@ fn main(rt: HostRuntime) -> io::Result<()> {
     let mut store = Store::new();
     for line in rt.lines(rt.alloc()) {
         let text = line?;
-        let message = read_hex(text.as_bytes());
-        answer(&rt, &mut store, message.as_slice())?;
+        let message = read_hex(rt.alloc(), text.as_str())?;
+        answer(&rt, &mut store, &message)?;
     }
     store.empty();
     println!(rt; "emptied {}", store.checksum())

@@ -21,7 +21,7 @@ pub enum FaultEvent {
     Clearance = 0,
 }
 
-// A fault of a sign, with the number of its entry and the time of the report.
+// A fault of a sign, with the number of its entry and the time of the report. The code is any byte, as the sign gave it.
 #[derive(Clone, Copy, Debug, PartialEq, Eq)]
 pub struct FaultEntry {
     pub sign: u8,
@@ -31,7 +31,7 @@ pub struct FaultEntry {
     pub event: FaultEvent,
 }
 
-// An accepted group order.
+// An accepted group order. Its code is a byte: an enum would ask more of who lists orders.
 #[derive(Clone, Copy, Debug, PartialEq, Eq)]
 pub struct OrderEntry {
     pub code: u8,

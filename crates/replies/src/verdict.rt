@@ -18,7 +18,7 @@ impl Reply {
         Reply::cut(&[ACKNOWLEDGEMENT, code])
     }
 
-    // The code was rejected, with the number of the rejection.
+    // The code was rejected, with the number of the rejection: bytes, since messages have any code and two enums give numbers.
     pub fn rejection(code: u8, number: u8) -> Reply
         ensures { result ≡ rejection_reply code number }
     {

@@ -1,6 +1,7 @@
-ghost use Rattle.std.specs.Prelude.{◌≡◌};
+ghost use Rattle.std.specs.Prelude.{◌≡◌, IfSome};
 ghost use Rattle.wire.specs.Line.{Line-is-clean};
 ghost use Rattle.wire.specs.Noise.{Soh-starts-afresh, Soh-ends-noise, Packet-survives-noise, Taken-has-come, Noise-leaves-no-trace};
+ghost use Rattle.wire.specs.Packet.{Fitting};
 ghost use Rattle.wire.specs.Reader.{rest, next, taken};
 
 use crate::packet::{ETX, PACKET_MOST, Packet, SOH};
@@ -47,6 +48,7 @@ impl Reader {
     pub fn feed(&mut self, byte: u8) -> Option<Packet>
         ensures state { self.new ≡ next self.old byte }
         ensures packet { result ≡ taken self.old byte }
+        ensures fits { IfSome result Fitting }
     {
         match (self.len, byte) {
             (_, SOH) => {

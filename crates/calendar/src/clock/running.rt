@@ -1,7 +1,7 @@
 // The clock's running: start, tick, setting, and what is read off it.
-ghost use Rattle.std.specs.Prelude.{◌≡◌, ◌+◌, ◌*◌, ◌/◌, ◌%◌, min};
+ghost use Rattle.std.specs.Prelude.{◌≡◌, ◌+◌, ◌*◌, ◌/◌, ◌%◌, min, IfOk, OnErr};
 ghost use Rattle.calendar.specs.Clocks.{started, ticked, set_to};
-ghost use Rattle.calendar.specs.Moments.{judged, day_number, moment, last_second, last_moment, minute_of_day, second_of_day, minute_of_week, OnDate};
+ghost use Rattle.calendar.specs.Moments.{judged, day_number, moment, last_second, last_moment, next_second, minute_of_day, second_of_day, minute_of_week, OnDate};
 ghost use Rattle.calendar.specs.Weekdays.{weekday_number};
 ghost use Rattle.calendar.specs.declared.clock.Clock.{Clock as AnyClock};
 
@@ -31,6 +31,7 @@ impl Clock {
     // A second more; the last second of the year 9999 stays.
     pub fn tick(&mut self)
         ensures state { self.new ≡ ticked self.old }
+        ensures shows { self.new.shown ≡ next_second self.old.shown }
         ensures later { moment self.new.shown ≡ min (moment self.old.shown + 1) last_moment }
         ensures stays { self.old.shown ≡ last_second → self.new ≡ self.old }
     {
@@ -43,6 +44,8 @@ impl Clock {
     pub fn set(&mut self, given: DateTime) -> Result<(), Unfit>
         ensures answer { result ≡ judged given }
         ensures state { self.new ≡ set_to given self.old }
+        ensures shows { IfOk result (λ _. self.new.shown ≡ given) }
+        ensures kept { OnErr result (self.new ≡ self.old) }
     {
         given.judge()?;
         *self = Clock { shown: given };

@@ -1,11 +1,9 @@
-use Rattle.std.proofs.Common.{sym, subst}
-use Rattle.groups.specs.declared.group.GroupRecord.{GroupRecord}
-use Rattle.groups.specs.Objections.{StaysApart}
-use Rattle.groups.proofs.Keeping.{stays-apart}
+use Rattle.std.proofs.Common.{rules}
+use Rattle.groups.proofs.Keeping.{stays_apart}
 use Rattle.groups.proofs.group.GroupRecord.obey.Goals as goal
 
-pub returns : goal.returns
-returns c = record {
-  after = c.carry_out.ensures;
-  apart = subst (λ (g : GroupRecord). StaysApart c.args.self.now c.args.order c.args.operand g) (sym c.carry_out.ensures) (stays-apart c.args.self.now c.args.order c.args.operand);
-}
+pub returns-in-EnablePlan-default-clause-apart : goal.returns-in-EnablePlan-default-clause-apart
+returns-in-EnablePlan-default-clause-apart c = stays_apart c.args.self.now c.args.order c.args.operand c.enable_plan.new.self (search rules)
+
+pub returns-in-DisablePlan-default-clause-apart : goal.returns-in-DisablePlan-default-clause-apart
+returns-in-DisablePlan-default-clause-apart c = stays_apart c.args.self.now c.args.order c.args.operand c.disable_plan.new.self (search rules)
