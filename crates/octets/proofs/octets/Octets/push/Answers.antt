@@ -13,4 +13,6 @@ one-more most used bs b fits full zeros =
     (omega (arith, fits), grind (arith, common_steps), rw behind (ap (λ n. replicate n 0) (omega arith)))
 
 pub invariant_of-self : goal.invariant_of-self
-invariant_of-self g c = one-more _ _ _ _ c.if-used.true c.self.invariant.1 c.self.invariant.2
+invariant_of-self g c =
+    let i = one-more _ _ _ _ c.if-used.true c.self.invariant.1 c.self.invariant.2 in
+    (i.0, i.1, i.2, omega (arith, c.if-self-lt-MOST_COUNTED.true))
