@@ -2,24 +2,19 @@
 use Rattle.std.specs.Prelude.{ℕ, ◌+◌, ◌-◌, Bool, false, cond, List, length, Some, None, Ok, Err, Option, Result, nat_le, slice_get}
 use Rattle.rack.specs.declared.look.Shape.{Shape}
 use Rattle.rack.specs.declared.sign.Sign.{Sign}
-use Rattle.rack.specs.declared.sign.Shown.{Shown}
 use Rattle.rack.specs.declared.bank.SignRack.{SignRack}
 use Rattle.rack.specs.declared.refusal.Refusal.{Refusal}
 use Rattle.rack.specs.declared.refusal.Refusal.TheVariants.{ThirteenthSign, Unfit}
-use Rattle.rack.specs.Face.{Face, dark, lit, has}
+use Rattle.rack.specs.Face.{Face, dark, has}
 
 -- Sign s of a list, whose first sign has the number 1.
 abbrev pub numbered : {X : Type 0} → List X → ℕ → Option X
 numbered xs s = cond (has (length xs) s) (slice_get xs (s - 1)) None
 
--- what a sign shows; a lacking sign shows nothing
-abbrev pub shown_by : {K : Type 0} → Option (Sign K) → Option Shown
-shown_by None = None
-shown_by (Some g) = g.shown
-
-abbrev pub shown_face : Option Shown → Face
-shown_face None = dark
-shown_face (Some w) = lit w.look w.picture
+-- the face of a sign; a lacking sign is dark
+abbrev pub sign_face : {K : Type 0} → Option (Sign K) → Face
+sign_face None = dark
+sign_face (Some g) = g.panel
 
 module _ {K : Type 0} (admits : K → Shape → Bool) where
   -- what a sign takes, by its kind; a lacking sign takes nothing
@@ -35,7 +30,7 @@ module _ {K : Type 0} where
   bank_count r = length r.signs.items
 
   abbrev pub bank_face : SignRack K → ℕ → Face
-  bank_face r s = shown_face (shown_by (numbered r.signs.items s))
+  bank_face r s = sign_face (numbered r.signs.items s)
 
 -- The answer to fitting one more sign to a rack of n signs: its number, or why not.
 abbrev pub fitting : ℕ → Bool → Result ℕ Refusal

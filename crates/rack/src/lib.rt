@@ -10,6 +10,7 @@ pub mod interface;
 pub mod joined;
 pub mod lane;
 pub mod look;
+mod panel;
 pub mod refusal;
 pub mod sign;
 pub mod text;

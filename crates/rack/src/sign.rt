@@ -1,8 +1,8 @@
 ghost use Rattle.std.specs.Prelude.{◌≡◌, ◌≤◌, Bool, true};
 ghost use Rattle.rack.specs.declared.look.Shape.{Shape as TheShape};
 
-use crate::look::{Look, Shape};
-use octets::Octets;
+use crate::look::Shape;
+use crate::panel::Panel;
 
 // A kind of sign: what a sign takes depends on it alone.
 pub trait SignKind: Copy + Default {
@@ -16,16 +16,9 @@ pub trait SignKind: Copy + Default {
     ghost small: { (k : Self) (h : TheShape) → admits k h ≡ true → h.length ≤ 128 };
 }
 
-// A look, and the picture that is shown so.
-#[derive(Drop)]
-pub(crate) struct Shown {
-    pub(crate) look: Look,
-    pub(crate) picture: Octets<128>,
-}
-
-// One sign: its kind, and what it shows; a dark sign shows nothing.
+// One sign: its kind, and the memory that keeps its face.
 #[derive(Default, Drop)]
 pub(crate) struct Sign<K> {
     pub(crate) kind: K,
-    pub(crate) shown: Option<Shown>,
+    pub(crate) panel: Panel,
 }

@@ -1,6 +1,6 @@
-ghost use Rattle.std.specs.Prelude.{◌≤◌};
+ghost use Rattle.std.specs.Prelude.{◌≤◌, length};
 
-use std::alloc::{AllocError, Global};
+use octets::Octets;
 use std::io;
 
 fn digit(byte: u8) -> u8
@@ -13,15 +13,17 @@ fn digit(byte: u8) -> u8
     }
 }
 
-// The bytes that pairs of hex digits spell.
-pub(crate) fn read_hex(alloc: Global, text: &str) -> Result<Vec<u8>, AllocError> {
-    text.as_bytes()
-        .chunks_exact(2)
-        .map(|pair| match *pair {
-            [high, low] => digit(high) * 16 + digit(low),
-            _ => 0,
-        })
-        .collect(alloc)
+// The bytes that pairs of hex digits spell, the first 800 of them; a digit without another is passed over.
+pub(crate) fn read_hex(text: &str) -> Octets<800>
+    ensures { length result ≤ 800 }
+{
+    let mut bytes = Octets::new();
+    for pair in text.as_bytes().chunks_exact(2).take(800) {
+        if let [high, low] = *pair {
+            bytes.push(digit(high) * 16 + digit(low));
+        }
+    }
+    bytes
 }
 
 pub(crate) fn show_hex(rt: &impl Print, word: &str, bytes: &[u8]) -> io::Result<()> {

@@ -130,8 +130,8 @@ fn main(rt: HostRuntime) -> io::Result<()> {
     let mut store = Store::new();
     for line in rt.lines(rt.alloc()) {
         let text = line?;
-        let message = read_hex(rt.alloc(), text.as_str())?;
-        answer(&rt, &mut store, &message)?;
+        let message = read_hex(text.as_str());
+        answer(&rt, &mut store, message.as_slice())?;
     }
     store.empty();
     println!(rt; "emptied {}", store.checksum())

@@ -1,17 +1,17 @@
-ghost use Rattle.std.specs.Prelude.{◌≡◌, ℕ, ◌+◌, ◌<◌, ◌≤◌, Ok, Err, cond, nat_le, option_map, ◌==◌, if◌then◌else◌};
+ghost use Rattle.std.specs.Prelude.{◌≡◌, ℕ, ◌+◌, ◌<◌, ◌≤◌, Ok, Err, cond, length, nat_le, option_map, ◌==◌, if◌then◌else◌};
 ghost use Rattle.rack.specs.declared.look.Shape.{Shape as TheShape};
 ghost use Rattle.rack.specs.declared.refusal.Refusal.TheVariants.{ThirteenthSign};
-ghost use Rattle.rack.specs.Bank.{bank_count, bank_face, bank_takes, numbered, shown_by, shown_face};
-ghost use Rattle.rack.specs.Face.{dark, has, Elsewhere, SameTaking};
+ghost use Rattle.rack.specs.Bank.{bank_count, bank_face, bank_takes, numbered};
+ghost use Rattle.rack.specs.Face.{lit, Elsewhere, SameTaking};
 ghost use Rattle.std.proofs.Common.{rules};
 
 use crate::bank::SignRack;
 use crate::interface::{Rack, ShowError};
 use crate::look::{Look, Shape};
+use crate::panel::Panel;
 use crate::refusal::Refusal;
-use crate::sign::{Shown, Sign, SignKind};
+use crate::sign::{Sign, SignKind};
 use arrayvec::ArrayVec;
-use octets::Octets;
 
 impl<K: SignKind> SignRack<K> {
     // A rack without signs.
@@ -41,7 +41,8 @@ impl<K: SignKind> SignRack<K> {
         ensures taking { (s : ℕ) (h : TheShape) → bank_takes K.admits self.new s h ≡ (if s == bank_count self.new then K.admits kind h else bank_takes K.admits self.old s h) }
         ensures faces { (s : ℕ) → bank_face self.new s ≡ bank_face self.old s }
     {
-        self.signs.push(Sign { kind, shown: None });
+        let panel = Panel::default();
+        self.signs.push(Sign { kind, panel });
         self.sign_count()
     }
 
@@ -52,22 +53,17 @@ impl<K: SignKind> SignRack<K> {
         self.signs.get(place)
     }
 
-    fn shown(&self, sign: u8) -> Option<&Shown>
-        ensures { option_map (λ w. w.now) result ≡ shown_by (numbered self.now.signs.items sign) }
-    {
-        self.sign(sign)?.shown.as_ref()
-    }
-
-    // What a sign shows from now on; a sign that the rack lacks stays dark.
-    fn set_shown(&mut self, sign: u8, shown: Option<Shown>)
-        ensures face { bank_face self.new sign ≡ (if has (bank_count self.old) sign then shown_face shown else dark) }
+    // Writes a picture into the memory of one of the rack's signs.
+    fn light(&mut self, sign: u8, look: Look, picture: &[u8])
+        requires first { 1 ≤ sign }
+        requires last { sign ≤ bank_count self.old }
+        requires fits { length picture.now ≤ 128 }
+        ensures face { bank_face self.new sign ≡ lit look picture.now }
         ensures others { Elsewhere (bank_face self.old) (bank_face self.new) sign }
         ensures taking { SameTaking (bank_takes K.admits self.old) (bank_takes K.admits self.new) }
         ensures count { bank_count self.new ≡ bank_count self.old }
     {
-        if sign >= 1 && sign as usize <= self.signs.len() {
-            self.signs[sign as usize - 1].shown = shown;
-        }
+        self.signs[sign as usize - 1].panel.write(look, picture);
     }
 }
 
@@ -94,12 +90,12 @@ impl<K: SignKind> Rack for SignRack<K> {
     }
 
     fn look(&self, sign: u8) -> Option<Look> {
-        self.shown(sign).map(|shown| shown.look)
+        self.sign(sign)?.panel.look()
     }
 
     fn picture(&self, sign: u8) -> &[u8] {
-        match self.shown(sign) {
-            Some(shown) => shown.picture.as_slice(),
+        match self.sign(sign) {
+            Some(fitted) => fitted.panel.picture(),
             None => &[],
         }
     }
@@ -108,12 +104,13 @@ impl<K: SignKind> Rack for SignRack<K> {
         if !self.accepts(sign, Shape::of(look, picture.len())) {
             return Err(ShowError::NotTaken);
         }
-        let picture = Octets::cut(picture);
-        self.set_shown(sign, Some(Shown { look, picture }));
+        self.light(sign, look, picture);
         Ok(())
     }
 
     fn darken(&mut self, sign: u8) {
-        self.set_shown(sign, None);
+        if sign >= 1 && sign as usize <= self.signs.len() {
+            self.signs[sign as usize - 1].panel.blank();
+        }
     }
 }

@@ -1,0 +1,8 @@
+use Rattle.std.proofs.Common.{◌≤◌, length}
+use Rattle.recordtest.proofs.digits.read_hex.Given as goal
+
+abbrev pub invariant-loop-pair : goal.invariant-loop-pair
+invariant-loop-pair l =
+    goal.iterator-loop-pair.can_next l.pair-iterator
+    × goal.iterator-loop-pair.is_finite l.pair-iterator
+    × (length l.bytes ≤ 800)
