@@ -12,10 +12,10 @@ use Rattle.std.proofs.lemmas.Bool.{cases_lt, false≢true, agree_below_at}
 use Rattle.std.proofs.lemmas.Float.{T_from_true, le_trans}
 
 -- ---- the order of the marks
-mark-positive : (k : ℕ) → T (positive (volt_mark k))
+pub mark-positive : (k : ℕ) → T (positive (volt_mark k))
 mark-positive k = lt→ltb 0 (2 * k + 1) (omega arith)
 
-infinite : (y : Float) → T (positive y) → T (le y (inf false))
+pub infinite : (y : Float) → T (positive y) → T (le y (inf false))
 unfolding le
 infinite nan u = absurd u
 infinite (inf s) u = absurd u

@@ -2,7 +2,9 @@
 use Rattle.std.proofs.Common.{◌≡◌, Bool, true, false, cond, List, [], ◌∷◌, sym, refl, ap, subst}
 use Rattle.commands.specs.Sent.{Sent}
 use Rattle.judging.specs.declared.rejection.Rejection.{Rejection}
-use Rattle.judging.specs.Judgements.{Judgement, accepted, rejected, decided, Grounded}
+use Rattle.judging.specs.declared.rejection.Rejection.TheVariants.{UnknownCode, WrongLength, NotOpen, BadPassword, WrongCheckWord, Unfit, NotStored, Overlap}
+use Rattle.judging.specs.Judgements.{Judgement, accepted, rejected, decided, NoneOf, Grounded}
+use Rattle.judging.specs.Rejections.{in_order}
 
 module _ (stands : Rejection → Bool) (said : Sent) where
   -- a ground that does not stand may be put in front
@@ -25,3 +27,18 @@ module _ (stands : Rejection → Bool) (said : Sent) where
 
   pub grounded-at : (order : List Rejection) (j : Judgement) → j ≡ decided stands said order → Grounded stands said order j
   grounded-at order j e = subst (λ (i : Judgement). Grounded stands said order i) (sym e) (grounded order)
+
+-- no ground stands against an accepted message
+pub accepted-clear : (stands : Rejection → Bool) (said v : Sent) → Grounded stands said in_order (accepted v) → (r : Rejection) → stands r ≡ false
+unfolding Grounded
+accepted-clear stands said v g r = clear g.1 r
+  where
+    clear : NoneOf stands in_order → (r : Rejection) → stands r ≡ false
+    clear n UnknownCode = n.0
+    clear n WrongLength = n.1.0
+    clear n NotOpen = n.1.1.0
+    clear n BadPassword = n.1.1.1.0
+    clear n WrongCheckWord = n.1.1.1.1.0
+    clear n Unfit = n.1.1.1.1.1.0
+    clear n NotStored = n.1.1.1.1.1.1.0
+    clear n Overlap = n.1.1.1.1.1.1.1.0

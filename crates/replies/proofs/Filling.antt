@@ -2,7 +2,7 @@
 use Rattle.std.proofs.Common.{◌≡◌, ℕ, zero, suc, List, [], ◌∷◌, ◌++◌, take, refl, ap}
 
 -- a cut that is made early makes no difference
-pub cut_early : (n : ℕ) (xs ys : List ℕ) → take n (take n xs ++ ys) ≡ take n (xs ++ ys)
+pub cut_early : {X : Type 0} (n : ℕ) (xs ys : List X) → take n (take n xs ++ ys) ≡ take n (xs ++ ys)
 cut_early zero xs ys = refl
 cut_early (suc n) [] ys = refl
 cut_early (suc n) (x ∷ xs) ys = ap (λ zs. x ∷ zs) (cut_early n xs ys)

@@ -1,12 +1,13 @@
 -- Why a table gives the check word: a shift is linear, so a register may be shifted in parts.
-use Rattle.std.proofs.Common.{◌≡◌, ℕ, zero, suc, ◌+◌, ◌*◌, ◌/◌, ◌%◌, ◌^◌, ◌<◌, Bool, true, ◌==◌, ◌&&◌, List, [], ◌∷◌, length, get_or, sym, refl, ap, ◌∙◌, add-zero, arith}
+use Rattle.std.proofs.Common.{◌≡◌, ℕ, zero, suc, ◌+◌, ◌*◌, ◌/◌, ◌%◌, ◌^◌, ◌<◌, Bool, true, ◌==◌, ◌&&◌, List, [], ◌∷◌, length, get_or, fold, sym, refl, ap, ◌∙◌, add-zero, arith}
 use lib.Bits.{bit_xor, xor_block, xor_assoc, xor_comm, xor_shifted, xor_shr, xor_mod, xor_lt, xor_zero_r}
 use Rattle.std.proofs.lemmas.Nat.{pow_pos}
 use Rattle.std.proofs.lemmas.Bool.Decides.{nat_tests}
 use Rattle.std.proofs.lemmas.Bool.{eqb-true, and_parts}
+use Rattle.std.specs.List.{AllByRecursion}
 use Rattle.wire.specs.CheckWord.{shifted, shifts, fed, check_word, Example}
 
-shifted-low : (w : ℕ) → w < 32768 → shifted w ≡ w * 2
+pub shifted-low : (w : ℕ) → w < 32768 → shifted w ≡ w * 2
 unfolding shifted
 shifted-low w h = grind (arith, nat_tests)
 
@@ -14,7 +15,7 @@ shifted-is : (w : ℕ) → w < 65536 → shifted w ≡ bit_xor (w * 2 % 65536) (
 unfolding shifted
 shifted-is w h = grind (arith, nat_tests, xor_zero_r)
 
-shifted-lt : (w : ℕ) → w < 65536 → shifted w < 65536
+pub shifted-lt : (w : ℕ) → w < 65536 → shifted w < 65536
 unfolding shifted
 shifted-lt w h =
     let x = xor_lt 16 (w * 2 % 65536) 4129 (omega arith) (omega arith) in
@@ -35,7 +36,7 @@ carry (suc (suc p)) q h k = absurd (omega arith)
 four : (a b p q : ℕ) → bit_xor (bit_xor a b) (bit_xor p q) ≡ bit_xor (bit_xor a p) (bit_xor b q)
 four a b p q = cc (xor_assoc a b (bit_xor p q), xor_assoc b p q, xor_comm b p, xor_assoc p b q, xor_assoc a p (bit_xor b q))
 
-lin : (a b : ℕ) → a < 65536 → b < 65536 → shifted (bit_xor a b) ≡ bit_xor (shifted a) (shifted b)
+pub lin : (a b : ℕ) → a < 65536 → b < 65536 → shifted (bit_xor a b) ≡ bit_xor (shifted a) (shifted b)
 lin a b ha hb =
     let s = shifted-is (bit_xor a b) (xor_lt 16 a b ha hb) in
     let sa = shifted-is a ha in
@@ -89,6 +90,19 @@ entry-from (x ∷ xs) i t (suc k) h =
 
 pub entry : (xs : List ℕ) → tabled 0 xs ≡ true → (i : ℕ) → i < length xs → get_or xs i 0 ≡ shifts 8 (i * 256)
 entry xs t i h = entry-from xs 0 t i h ∙ ap (λ j. shifts 8 (j * 256)) (omega arith)
+
+fed-small : (w b : ℕ) → w < 65536 → b < 256 → fed w b < 65536
+unfolding fed
+fed-small w b h k = shifts-lt 8 (bit_xor w (b * 256)) (xor_lt 16 w (b * 256) h (omega arith))
+
+folded-small : (bs : List ℕ) (w : ℕ) → w < 65536 → AllByRecursion (λ b. b < 256) bs → fold fed w bs < 65536
+folded-small [] w h a = h
+folded-small (b ∷ bs) w h a = folded-small bs (fed w b) (fed-small w b h a.0) a.1
+
+-- a check word is a word
+pub word_small : (bs : List ℕ) → AllByRecursion (λ b. b < 256) bs → check_word bs < 65536
+unfolding check_word
+word_small bs a = folded-small bs 0 (omega arith) a
 
 -- the published example
 pub example : Example

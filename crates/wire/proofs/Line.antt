@@ -3,13 +3,18 @@ use Rattle.std.proofs.Common.{◌≡◌, ℕ, List, [], ◌∷◌, ◌++◌, Som
 use Rattle.std.specs.Option.{option_to_list}
 use Rattle.wire.specs.Packet.{SOH, Content}
 use Rattle.wire.specs.Reader.{State, next, taken, takes}
-use Rattle.wire.specs.Line.{Call, byte, other, Machine, acted, answered, reader-step, world-step, reply, world, reader, replies, Quiet, Starts, Restarts, others, spread, heard, Clean, line, Clean-in-gaps, Line-is-clean}
+use Rattle.wire.specs.Line.{Call, byte, other, Machine, acted, answered, reader-step, world-step, reply, world, reader, replies, Quiet, Starts, Restarts, bytes, others, spread, heard, Clean, line, Clean-in-gaps, Line-is-clean}
 
 module _ {B C : Type 0} where
   starts-others : (s : B) (ns xs : List (Call B C)) → Starts s xs → Starts s (others ns ++ xs)
   starts-others s [] xs h = h
   starts-others s (byte b ∷ ns) xs h = starts-others s ns xs h
   starts-others s (other c ∷ ns) xs h = starts-others s ns xs h
+
+  -- a stretch of bytes is all of the line
+  pub others-bytes : (bs : List B) → others {C = C} (bytes bs) ≡ []
+  others-bytes [] = refl
+  others-bytes (b ∷ bs) = others-bytes bs
 
 module _ {R B P C W A : Type 0} (m : Machine R B P C W A) where
   pub replies-append : (xs ys : List (Call B C)) (r : R) (w : W) → replies m r w (xs ++ ys) ≡ replies m r w xs ++ replies m (reader m r xs) (world m r w xs) ys

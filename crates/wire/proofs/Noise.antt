@@ -60,7 +60,7 @@ unfolding Soh-ends-noise next taken
 soh-ends-noise bs e = (fold-append next rest bs (1 ∷ []), takes-append rest bs (1 ∷ []) ∙ ap (λ t. t ++ []) e)
 
 -- where the line ends or SOH comes next, the packets taken do not depend on where the reader was
-takes-afresh : (after : List ℕ) (s t : State) → Begins after → takes s after ≡ takes t after
+pub takes-afresh : (after : List ℕ) (s t : State) → Begins after → takes s after ≡ takes t after
 unfolding next taken
 takes-afresh [] s t h = refl
 takes-afresh (b ∷ bs) s t h = rw h refl
@@ -110,7 +110,7 @@ plain-inner n a m =
     let d = plain-digit in
     (d _, (d _, (d _, (d _, ((λ e. omega arith, λ e. omega arith), All-append Plain (in_digits m) behind (plain-in_digits m) (plain-in_digits (bytes_of (check_word (body n a m)))))))))
 
-packet-taken : (s : State) (n a : ℕ) (m : List ℕ) → Fitting (content n a m)
+pub packet-taken : (s : State) (n a : ℕ) (m : List ℕ) → Fitting (content n a m)
     → (run s (encode n a m) ≡ rest) × (takes s (encode n a m) ≡ content n a m ∷ [])
 unfolding next taken
 packet-taken s n a m f =
@@ -155,7 +155,7 @@ came-run : (s : State) (xs ys : List ℕ) → Came s xs → Came (run s ys) (xs 
 came-run s xs [] h = subst (λ (z : List ℕ). Came s z) (sym (append-nil xs)) h
 came-run s xs (y ∷ ys) h = subst (λ (z : List ℕ). Came (run (next s y) ys) z) (append_assoc xs (y ∷ []) ys) (came-run (next s y) (xs ++ y ∷ []) ys (came-next s xs y h))
 
-taken-rest : (b : ℕ) → taken rest b ≡ None
+pub taken-rest : (b : ℕ) → taken rest b ≡ None
 unfolding taken
 taken-rest b = grind (arith, nat_tests)
 

@@ -43,11 +43,11 @@ parts-by bs p true e d =
       end = (bytes_eq-Decides _ _).0 c;
     }))))
 
-parts : (bs : List ℕ) (p : Content) → decode bs ≡ Some p → Parts bs p
+pub parts : (bs : List ℕ) (p : Content) → decode bs ≡ Some p → Parts bs p
 unfolding decode
 parts bs p d = parts-by bs p (framed bs) refl d
 
-from_parts : (bs : List ℕ) (p : Content) → Parts bs p → decode bs ≡ Some p
+pub from_parts : (bs : List ℕ) (p : Content) → Parts bs p → decode bs ≡ Some p
 unfolding decode framed closed
 from_parts bs p q =
     let c = (bytes_eq-Decides _ _).1 q.end in

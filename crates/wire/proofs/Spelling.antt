@@ -7,7 +7,7 @@ use Rattle.std.proofs.lemmas.List.{append_assoc}
 use Rattle.std.proofs.lemmas.Option.{option_and_then_some, same_Some}
 use Rattle.wire.specs.Digits.{digit_of, digit_value, byte_value, in_digits, from_digits, ◌>>=◌}
 
-value-digit : (v : ℕ) → v < 16 → digit_value (digit_of v) ≡ Some v
+pub value-digit : (v : ℕ) → v < 16 → digit_value (digit_of v) ≡ Some v
 unfolding digit_value digit_of
 value-digit v h = grind (arith, nat_tests)
 

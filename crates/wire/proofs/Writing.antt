@@ -10,7 +10,7 @@ pub length-in_digits : (m : List ℕ) → length (in_digits m) ≡ 2 * length m
 length-in_digits [] = refl
 length-in_digits (b ∷ m) = omega (arith, length-in_digits m)
 
-in_digits-append : (l m : List ℕ) → in_digits (l ++ m) ≡ in_digits l ++ in_digits m
+pub in_digits-append : (l m : List ℕ) → in_digits (l ++ m) ≡ in_digits l ++ in_digits m
 in_digits-append [] m = refl
 in_digits-append (b ∷ l) m = ap (λ t. digit_of (b / 16) ∷ digit_of (b % 16) ∷ t) (in_digits-append l m)
 
@@ -27,7 +27,7 @@ unfolding encode
 length-encode n a m = simp length-append (omega (arith, length-body n a m))
 
 -- a part that is written right behind what was written before it
-behind : (out written part : List ℕ) (at k e : ℕ) → length written ≡ at → at + k ≡ e → put_mid at k (written ++ drop at out) part ≡ (written ++ part) ++ drop e out
+pub behind : (out written part : List ℕ) (at k e : ℕ) → length written ≡ at → at + k ≡ e → put_mid at k (written ++ drop at out) part ≡ (written ++ part) ++ drop e out
 behind out written part at k e l h = simp (take_at, drop_at, drop-drop, l, h, append_assoc)
 
 -- a packet in three parts: six bytes, the digits of its message, and five bytes

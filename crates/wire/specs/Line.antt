@@ -85,6 +85,11 @@ module _ {B C : Type 0} where
   others (byte b ∷ xs) = others xs
   others (other c ∷ xs) = other c ∷ others xs
 
+  -- a stretch of bytes as calls
+  abbrev pub bytes : List B → List (Call B C)
+  bytes [] = []
+  bytes (b ∷ bs) = byte b ∷ bytes bs
+
   -- the line bytes among the calls
   abbrev pub heard : List (Call B C) → List B
   heard [] = []
