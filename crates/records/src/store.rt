@@ -8,10 +8,9 @@ use crate::any_record::AnyRecord;
 use crate::frame::Frame;
 use crate::message::Message;
 use crate::plan::Plan;
-use crate::slots::{clear, find, list, listing, replace, summary};
-use crate::writing::{joined, lay};
+use crate::slots::{clear, find, list, list_behind, replace, summary};
+use crate::writing::lay_parts;
 use commands::kind::RecordKind;
-use octets::Octets;
 use wire::check_word;
 
 // The frames, messages and plans that are kept, each kind numbered from 1 to 255: fixed tables, for nothing allocates here.
@@ -111,12 +110,11 @@ impl Store {
     pub fn checksum(&self) -> u16
         ensures { result ≡ checksum_of self.now }
     {
-        let all: Octets<2295> = joined(
-            listing(&self.frames).as_slice(),
-            listing(&self.messages).as_slice(),
-            listing(&self.plans).as_slice(),
-        );
-        check_word(all.as_slice())
+        let mut listed = [0; 2295];
+        let frames = list_behind(&self.frames, &mut listed, 0);
+        let messages = list_behind(&self.messages, &mut listed, frames);
+        let end = list_behind(&self.plans, &mut listed, messages);
+        check_word(&listed[..end])
     }
 
     // Writes a bit for each number from 0 to 255 of frames, messages and plans, if 96 bytes are lent.
@@ -124,11 +122,11 @@ impl Store {
         ensures count { result ≡ room_for (summary_of self.now) out.old }
         ensures bytes { out.new ≡ laid (summary_of self.now) out.old }
     {
-        let all: Octets<96> = joined(
+        lay_parts(
             &summary(&self.frames[..]),
             &summary(&self.messages[..]),
             &summary(&self.plans[..]),
-        );
-        lay(all.as_slice(), out)
+            out,
+        )
     }
 }

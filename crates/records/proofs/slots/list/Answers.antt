@@ -1,9 +1,8 @@
-use Rattle.std.proofs.Common.{[], ◌∷◌, ◌∙◌, arith, rules, of_calls, is_some, length, length-append}
-use Rattle.std.proofs.lemmas.Iterator.{YieldsList-from_slice}
-use Rattle.std.proofs.lemmas.Iterator.Consumers.{YieldsList-from_filter, count_from_yields_List}
-use Rattle.records.proofs.Filled.{numbered_turn, numbered_end}
-use Rattle.records.proofs.Listing.{few, kept_count, listed_more, all_listed}
+use Rattle.std.proofs.Common.{arith, length, take, length-take-le}
+use Rattle.std.proofs.lemmas.List.{length-take}
+use Rattle.records.proofs.Listing.{few, listed_more, listed_on, all_listed}
 use Rattle.records.proofs.Rising.{rising}
+use Rattle.records.proofs.slots.list.Goals.{in-Some, in_default}
 use Rattle.records.proofs.slots.list.Goals as goal
 
 pub returns-then-out-slots-clause-rising : goal.returns-then-out-slots-clause-rising
@@ -11,26 +10,27 @@ returns-then-out-slots-clause-rising g c = rising g.R.Record.header c.args.slots
 
 pub write_entry-requires : goal.write_entry-requires
 write_entry-requires g c =
-    let t = numbered_turn _ c.args.slots.now (cc) (cc) (cc) (cc) (cc) c.loop-place.yielded c.loop-place.place-iterator c.next.new.self
-    c.next.result c.in-Some.place c.in-Some.kept c.loop-place.yielded_by c.in-Some.is c.next.ensures.steps in
-    omega (arith, few c.args.slots.now, t.0)
+    let i = c.loop-slot.slot-index in
+    let n = length-take-le i c.args.slots.now (omega (arith, c.loop-slot-test.true)) in
+    omega (arith, few (take i c.args.slots.now), n, c.loop-slot.invariant.0, c.loop-slot-test.true)
 
-pub loop-place-preserved : goal.loop-place-preserved
-loop-place-preserved g c =
-    let t = numbered_turn _ c.args.slots.now (cc) (cc) (cc) (cc) (cc) c.loop-place.yielded c.loop-place.place-iterator c.next.new.self
-    c.next.result c.in-Some.place c.in-Some.kept c.loop-place.yielded_by c.in-Some.is c.next.ensures.steps in
-    let t₁ = t.1 in
-    let h = c.header.ensures in
-    let l = length-append c.loop-place.yielded ((c.in-Some.place, c.in-Some.kept) ∷ []) in
-    let m = listed_more g.R.Record.header c.args.slots.now c.args.out.now c.loop-place.out c.write_entry.new.out c.in-Some.place c.in-Some.kept.now t.0 t.2 (cc) (cc) (rw (← t₁) c.loop-place.invariant.2) in
-    (search of_calls, search of_calls, rw (l, t₁) m)
+pub loop-slot-preserved : goal.loop-slot-preserved
+loop-slot-preserved g c =
+    elim c.match-slot.branch [
+      | in-Some w ↦
+          let h = w.header.ensures in let f = w.write_entry.ensures.front in
+          rw w.out-is (listed_more g.R.Record.header c.args.slots.now c.args.out.now c.loop-slot.out w.write_entry.new.out c.loop-slot.count c.match-slot.count c.loop-slot.slot-index _ w.in-Some.kept
+          c.loop-slot-test.true c.slot-item.is w.in-Some.is w.count-is (cc) w.write_entry.ensures.rest c.loop-slot.invariant)
+      | in_default w ↦ listed_on g.R.Record.header c.args.slots.now c.args.out.now c.loop-slot.out c.match-slot.out c.loop-slot.count c.match-slot.count c.loop-slot.slot-index _
+          c.loop-slot-test.true c.slot-item.is w.in_default.is w.out-is w.count-is c.loop-slot.invariant
+    ]
+
+pub overflow_mul-result : goal.overflow_mul-result
+overflow_mul-result g c =
+    let i = c.loop-slot.slot-index in
+    omega (arith, few (take i c.args.slots.now), length-take i c.args.slots.now, c.loop-slot.invariant.0)
 
 pub returns : goal.returns
 returns g c =
-    let e = numbered_end _ c.args.slots.now (cc) (cc) (cc) (cc) (cc) c.loop-place.yielded c.loop-place.place-iterator c.next.new.self
-    c.next.result c.loop-place.yielded_by c.in-None.is c.next.ensures.steps in
-    let n = count_from_yields_List c.filter.result c.count.result c.count.ensures.ran
-    (YieldsList-from_filter _ is_some (YieldsList-from_slice c.args.slots.now (cc)) c.filter.ensures.closure (λ x b q k. search rules))
-    ∙ kept_count c.args.slots.now in
-    let p = all_listed g.R.Record.header c.args.slots.now c.args.out.now c.loop-place.out (length c.loop-place.yielded) e (omega arith) c.loop-place.invariant.2 in
-    record { count = (cc); bytes = p.1; rising = rising g.R.Record.header c.args.slots.now }
+    let p = all_listed g.R.Record.header c.args.slots.now c.args.out.now c.loop-slot.out c.loop-slot.count c.loop-slot.slot-index c.loop-slot-test.false (omega arith) c.loop-slot.invariant in
+    record { count = p.0; bytes = p.1; rising = rising g.R.Record.header c.args.slots.now }
