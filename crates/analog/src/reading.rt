@@ -13,10 +13,14 @@ pub enum Reading {
 fn marks_reached(first: f32, marks: u8, x: f32) -> u8
     ensures { result ≡ count (mark_from first) marks x }
 {
-    (0..marks)
-        .map(|k| first + f32::from(k))
-        .filter(|&mark| mark <= x)
-        .count() as u8
+    // a `for`, and no chain: through one a reading takes half as long again
+    let mut reached = 0;
+    for k in 0..marks {
+        if first + (k as f32) <= x {
+            reached += 1;
+        }
+    }
+    reached
 }
 
 // Tenths of a volt, by the marks 0.5 to 254.5.
