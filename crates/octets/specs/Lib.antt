@@ -1,2 +1,3 @@
+pub mod Held
 pub mod Room
 pub mod Stretch

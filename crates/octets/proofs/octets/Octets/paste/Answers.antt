@@ -6,16 +6,18 @@ use Rattle.octets.proofs.octets.Octets.paste.Goals as goal
 
 pub invariant_of-self : goal.invariant_of-self
 invariant_of-self g c =
-    let few : length (take c.min-2.result c.args.bytes.now) ≤ g.row.MOST - c.self.inside.used =
+    let o = c.args.self.now in
+    let few : length (take c.min-2.result c.args.bytes.now) ≤ room g.row.MOST - o.used =
     omega (arith, c.min-2.ensures, c.min.ensures, length-take c.min-2.result c.args.bytes.now) in
-    let held : c.self.inside.used ≤ length c.self.inside.bytes = omega (arith, c.self.invariant.0, c.self.invariant.1) in (
-      omega (arith, few, c.self.invariant.0),
-      rw (c.copy_from_slice.ensures.after, long c.self.inside.used c.self.inside.bytes (take c.min-2.result c.args.bytes.now) (omega (arith, few, c.self.invariant.0, c.self.invariant.1))) c.self.invariant.1,
-      rw c.copy_from_slice.ensures.after (behind g.row.MOST c.self.inside.used c.self.inside.bytes (take c.min-2.result c.args.bytes.now) held c.self.invariant.2 few),
-      omega (arith, c.self.invariant.3, c.min-2.ensures, c.min.ensures, length-take c.min-2.result c.args.bytes.now),
-    )
+    let held : o.used ≤ length o.bytes = omega (arith, o.fits, o.long) in
+    record {
+      long = rw (c.copy_from_slice.ensures.after, long o.used o.bytes (take c.min-2.result c.args.bytes.now) (omega (arith, few, o.fits, o.long))) o.long;
+      fits = omega (arith, few, o.fits);
+      blank = rw (c.copy_from_slice.ensures.after) (behind g.row.MOST o.used o.bytes (take c.min-2.result c.args.bytes.now) held o.blank (omega (arith, few)));
+    }
 
 pub returns : goal.returns
 returns g c =
-    let held : c.self.inside.used ≤ length c.self.inside.bytes = omega (arith, c.self.invariant.0, c.self.invariant.1) in
-    rw (c.copy_from_slice.ensures.after, ← c.self.view_is) (follow (room g.row.MOST) c.self.inside.used c.min-2.result c.self.inside.bytes c.args.bytes.now (omega (arith, c.self.invariant.0, c.self.invariant.3)) held (omega (arith, c.min-2.ensures, c.min.ensures)))
+    let o = c.args.self.now in
+    let held : o.used ≤ length o.bytes = omega (arith, o.fits, o.long) in
+    rw (c.copy_from_slice.ensures.after) (follow (room g.row.MOST) o.used c.min-2.result o.bytes c.args.bytes.now o.fits held (omega (arith, c.min-2.ensures, c.min.ensures)))
