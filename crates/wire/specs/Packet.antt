@@ -2,8 +2,10 @@
 use Rattle.std.specs.Prelude.{◌≡◌, ℕ, ◌+◌, ◌-◌, ◌*◌, ◌<◌, ◌≤◌, Bool, cond, ◌&&◌, List, [], ◌∷◌, ◌++◌, length, take, drop, Some, None, Option, ◌==◌, nat_le, slice_index}
 use Rattle.std.specs.List.{between, AllByRecursion}
 use Rattle.std.specs.Str.{bytes_eq}
+use Rattle.octets.specs.Held.{held}
 use Rattle.wire.specs.CheckWord.{check_word}
 use Rattle.wire.specs.Digits.{byte_value, in_digits, bytes_of, from_digits, ◌>>=◌}
+use Rattle.wire.specs.declared.packet.Packet.{Packet}
 
 abbrev pub SOH : ℕ
 SOH = 1
@@ -22,6 +24,14 @@ pub record Content : Type 0 where
 
 abbrev pub content : ℕ → ℕ → List ℕ → Content
 content n a m = record { number = n; address = a; message = m }
+
+-- what a packet in hand says
+abbrev pub said : Packet → Content
+said p = content p.number p.address (held p.message)
+
+-- packets that say the same are equal all through
+abbrev pub Alike : Type 0
+Alike = (a b : Packet) → said a ≡ said b → a ≡ b
 
 -- what a packet can say: bytes, and a message of 1 to 768 of them
 abbrev pub Fitting : Content → Type 0

@@ -1,7 +1,7 @@
 ghost use Rattle.std.specs.Prelude.{◌≤◌, length};
+ghost use Rattle.octets.specs.Held.{held};
 
 use octets::Octets;
-use std::marker::Model;
 
 pub mod reading;
 pub mod writing;
@@ -33,17 +33,5 @@ pub struct Packet {
     pub number: u8,
     pub address: u8,
     message: Octets<MESSAGE_MOST>,
-}
-
-impl Model for Packet {
-    ghost use Rattle.std.specs.Prelude.{◌≤◌, length};
-    ghost use Rattle.wire.specs.Packet.{Content, content};
-
-    ghost Value = { Content };
-
-    ghost view = { λ p. content p.number p.address p.message };
-
-    ghost invariant = { λ p. 1 ≤ length p.message };
-
-    ghost inverse = { λ c. record { number = c.number; address = c.address; message = c.message } };
+    ghost some: { 1 ≤ length (held message) },
 }

@@ -1,7 +1,8 @@
 ghost use Rattle.std.specs.Prelude.{◌≡◌, IfSome};
+ghost use Rattle.std.specs.Option.{option_map};
 ghost use Rattle.wire.specs.Line.{Line-is-clean};
 ghost use Rattle.wire.specs.Noise.{Soh-starts-afresh, Soh-ends-noise, Packet-survives-noise, Taken-has-come, Noise-leaves-no-trace};
-ghost use Rattle.wire.specs.Packet.{Fitting};
+ghost use Rattle.wire.specs.Packet.{said, Fitting};
 ghost use Rattle.wire.specs.Reader.{rest, next, taken};
 
 use crate::packet::{ETX, PACKET_MOST, Packet, SOH};
@@ -47,8 +48,8 @@ impl Reader {
     #[tactic(auto, unfolding(crate::specs::Reader::next, crate::specs::Reader::taken))]
     pub fn feed(&mut self, byte: u8) -> Option<Packet>
         ensures state { self.new ≡ next self.old byte }
-        ensures packet { result ≡ taken self.old byte }
-        ensures fits { IfSome result Fitting }
+        ensures packet { option_map said result ≡ taken self.old byte }
+        ensures fits { IfSome result (λ p. Fitting (said p)) }
     {
         match (self.len, byte) {
             (_, SOH) => {

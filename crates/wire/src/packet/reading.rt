@@ -1,7 +1,9 @@
 ghost use Rattle.std.specs.Prelude.{◌≡◌, ◌*◌, ◌≤◌, length, IfSome};
 ghost use Rattle.std.specs.Bool.{OnTrue};
+ghost use Rattle.std.specs.Option.{option_map};
+ghost use Rattle.octets.specs.Held.{held};
 ghost use Rattle.wire.specs.Digits.{from_digits};
-ghost use Rattle.wire.specs.Packet.{framed, decode, Whole};
+ghost use Rattle.wire.specs.Packet.{framed, decode, said, Whole, Alike};
 
 use crate::crc::check_word;
 use crate::digits::{byte_of, word_digits};
@@ -11,8 +13,8 @@ use octets::Octets;
 // The bytes that digits spell.
 fn from_digits(digits: &[u8]) -> Option<Octets<MESSAGE_MOST>>
     requires { length digits.now ≤ 1536 }
-    ensures bytes { result ≡ from_digits digits.now }
-    ensures long { IfSome result (λ bytes. 2 * length bytes ≡ length digits.now) }
+    ensures bytes { option_map held result ≡ from_digits digits.now }
+    ensures long { IfSome result (λ bytes. 2 * length (held bytes) ≡ length digits.now) }
 {
     let mut bytes = Octets::new();
     let mut left = digits;
@@ -35,17 +37,18 @@ fn is_framed(bytes: &[u8]) -> bool
     if !(FRAME + 2..=PACKET_MOST).contains(&bytes.len()) {
         return false;
     }
-    let (body, end) = bytes.split_at(bytes.len() - TAIL);
+    let body = &bytes[..bytes.len() - TAIL];
     let [first, second, third, fourth] = word_digits(check_word(body));
-    end == [first, second, third, fourth, ETX].as_slice()
+    bytes.ends_with(&[first, second, third, fourth, ETX])
 }
 
 impl Packet {
     // The packet that the bytes are, if they are one.
-    #[tactic(auto, unfolding(crate::specs::Packet::decode))]
+    #[tactic(auto, using(crate::proofs::Alike::alike), unfolding(crate::specs::Packet::decode))]
     pub fn read(bytes: &[u8]) -> Option<Packet>
-        ensures packet { result ≡ decode bytes.now }
-        ensures whole { Whole bytes.now result }
+        ensures packet { option_map said result ≡ decode bytes.now }
+        ensures whole { Whole bytes.now (option_map said result) }
+        ensures alike { Alike }
     {
         if !is_framed(bytes) {
             return None;
@@ -62,7 +65,7 @@ impl Packet {
 
     // The message, in place.
     pub fn message(&self) -> &[u8]
-        ensures bytes { result.now ≡ self.now.message }
+        ensures bytes { result.now ≡ (said self.now).message }
         ensures long { (1 ≤ length result.now) × (length result.now ≤ 768) }
     {
         self.message.as_slice()
