@@ -4,12 +4,10 @@
 // in the memory keeps its contents; memory that is shorter than the bound is refused, and nothing alters.
 #![tactic(auto)]
 
-ghost use Rattle.std.specs.Prelude.{◌≡◌, ℕ, ◌≤◌, ◌∷◌, length, take, if◌then◌else◌, slice_get, Err, MatchResult, nat_le};
-ghost use Rattle.journal.specs.Logs.{grown, written, judged, refusal_number};
+ghost use Rattle.std.specs.Prelude.{◌≡◌, ◌≤◌, ◌∷◌, length, take, if◌then◌else◌, slice_get, Err, MatchResult, nat_le};
 
 use std::error::Error;
 use std::fmt;
-use std::marker::Model;
 
 // Why a call on a log is not made.
 #[derive(Clone, Copy, Debug, PartialEq, Eq)]
@@ -18,6 +16,8 @@ pub enum Refusal {
 }
 
 impl From<Refusal> for u8 {
+    ghost use Rattle.journal.specs.Logs.{refusal_number};
+
     ghost from_gives = { λ refusal number. number ≡ refusal_number refusal };
 
     fn from(refusal: Refusal) -> u8 {
@@ -39,17 +39,7 @@ impl Error for Refusal {}
 #[derive(Clone, Copy, Debug, PartialEq, Eq)]
 pub struct Journal<const BOUND: usize> {
     count: usize,
-}
-
-// Clauses see how many entries the log has.
-impl<const BOUND: usize> Model for Journal<BOUND> {
-    ghost Value = { ℕ };
-
-    ghost view = { λ log. log.count };
-
-    ghost invariant = { λ log. log.count ≤ BOUND };
-
-    ghost inverse = { λ count. record { count = count } };
+    ghost few: { count ≤ BOUND },
 }
 
 // Puts an entry before the others of a part; the last one leaves it.
@@ -63,9 +53,12 @@ fn push_front<T: Copy>(part: &mut [T], newest: T)
 }
 
 impl<const BOUND: usize> Journal<BOUND> {
+    ghost use Rattle.journal.specs.Logs.{Alike, empty, kept, grown, listed, written, judged};
+
     // An empty log.
     pub fn new() -> Journal<BOUND>
-        ensures { result ≡ 0 }
+        ensures log { result ≡ empty }
+        ensures alike { Alike BOUND }
     {
         Journal { count: 0 }
     }
@@ -83,7 +76,7 @@ impl<const BOUND: usize> Journal<BOUND> {
 
     // How many entries the log has.
     pub fn len(&self) -> usize
-        ensures count { result ≡ self.now }
+        ensures count { result ≡ kept self.now }
         ensures bound { result ≤ BOUND }
     {
         self.count
@@ -91,7 +84,7 @@ impl<const BOUND: usize> Journal<BOUND> {
 
     // Forgets all entries.
     pub fn clear(&mut self)
-        ensures { self.new ≡ 0 }
+        ensures { self.new ≡ empty }
     {
         *self = Journal::new();
     }
@@ -99,9 +92,9 @@ impl<const BOUND: usize> Journal<BOUND> {
     // Puts an entry into the log.
     pub fn append<T: Copy>(&mut self, memory: &mut [T], newest: T) -> Result<(), Refusal>
         ensures answer { result ≡ judged BOUND (length memory.old) }
-        ensures book { self.new ≡ (if nat_le BOUND (length memory.old) then grown BOUND self.old else self.old) }
-        ensures memory { memory.new ≡ (if nat_le BOUND (length memory.old) then written BOUND self.old newest memory.old else memory.old) }
-        ensures log { BOUND ≤ length memory.old → take self.new memory.new ≡ take BOUND (newest ∷ take self.old memory.old) }
+        ensures book { self.new ≡ (if nat_le BOUND (length memory.old) then grown self.old else self.old) }
+        ensures memory { memory.new ≡ (if nat_le BOUND (length memory.old) then written self.old newest memory.old else memory.old) }
+        ensures log { BOUND ≤ length memory.old → listed self.new memory.new ≡ take BOUND (newest ∷ listed self.old memory.old) }
     {
         Self::judge(memory)?;
         let room = self.len().saturating_add(1).min(BOUND);
@@ -112,7 +105,7 @@ impl<const BOUND: usize> Journal<BOUND> {
 
     // The entries, newest first.
     pub fn entries<'a, T: Copy>(&self, memory: &'a [T]) -> Result<&'a [T], Refusal>
-        ensures { MatchResult result (λ part. (BOUND ≤ length memory.now) × (self.now ≤ BOUND) × (part.now ≡ take self.now memory.now)) (λ e. judged BOUND (length memory.now) ≡ Err e) }
+        ensures { MatchResult result (λ part. (BOUND ≤ length memory.now) × (kept self.now ≤ BOUND) × (part.now ≡ listed self.now memory.now)) (λ e. judged BOUND (length memory.now) ≡ Err e) }
     {
         Self::judge(memory)?;
         Ok(&memory[..self.len()])
@@ -120,8 +113,8 @@ impl<const BOUND: usize> Journal<BOUND> {
 
     // The entry that has `age` newer ones.
     pub fn get<T: Copy>(&self, memory: &[T], age: usize) -> Option<T>
-        ensures bound { self.now ≤ BOUND }
-        ensures entry { result ≡ slice_get (take self.now memory.now) age }
+        ensures bound { kept self.now ≤ BOUND }
+        ensures entry { result ≡ slice_get (listed self.now memory.now) age }
     {
         if age < self.len() {
             memory.get(age).copied()
