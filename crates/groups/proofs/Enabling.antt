@@ -1,7 +1,8 @@
 -- What enabling, disabling and listing mean for each plan.
-use Rattle.std.proofs.Common.{◌≡◌, ℕ, ◌<◌, ◌≤◌, min, ltb, List, [], ◌∷◌, Some, None, Option, sym, refl, ap, ◌∙◌, subst, arith}
+use Rattle.std.proofs.Common.{◌≡◌, ℕ, ◌+◌, ◌<◌, ◌≤◌, min, ltb, cond, List, [], ◌∷◌, length, get_or, drop, Some, None, Option, sym, refl, ap, ◌∙◌, subst, arith}
 use Rattle.std.proofs.lemmas.Bool.{cond_both, ltb-true, ltb-false}
 use Rattle.std.proofs.lemmas.Bool.Decides.{nat_tests}
+use Rattle.std.proofs.lemmas.List.{at_drop_more}
 use Rattle.std.specs.List.{filter, flat_map, fold, reduce}
 use Rattle.std.specs.Option.{option_to_list}
 use Rattle.groups.specs.Plans.{put, without, next_above, Joins, Leaves, Follows}
@@ -50,3 +51,23 @@ next_follows (Some k ∷ xs) n =
     cond_both (ltb n k) (k ∷ filter (ltb n) (flat_map option_to_list xs)) (filter (ltb n) (flat_map option_to_list xs)) (λ (ys : List ℕ). Follows (Some k ∷ xs) n (reduce min ys))
     (λ t. subst (λ (m : ℕ). Follows (Some k ∷ xs) n (Some m)) (sym (fold_min k (filter (ltb n) (flat_map option_to_list xs)))) (nearer k n xs (next_above xs n) (ltb-true n k t) (next_follows xs n)))
     (λ t. below k n xs (next_above xs n) (ltb-false n k t) (next_follows xs n))
+
+-- the lesser of two that may be there
+abbrev pub nearest : Option ℕ → Option ℕ → Option ℕ
+nearest None r = r
+nearest (Some k) r = Some (lesser k r)
+
+-- the least plan above n that was found, with a slot more
+abbrev pub picked : Option ℕ → Option ℕ → ℕ → Option ℕ
+picked least None n = least
+picked least (Some k) n = cond (ltb n k) (Some (lesser k least)) least
+
+pick : (least x : Option ℕ) (xs : List (Option ℕ)) (n : ℕ) → nearest least (next_above (x ∷ xs) n) ≡ nearest (picked least x n) (next_above xs n)
+pick least None xs n = refl
+pick None (Some k) xs n = let e = fold_min k (filter (ltb n) (flat_map option_to_list xs)) in grind (arith, nat_tests)
+pick (Some m) (Some k) xs n = let e = fold_min k (filter (ltb n) (flat_map option_to_list xs)) in grind (arith, nat_tests)
+
+-- what is found in the end is the same one slot further
+pub pick_more : (least : Option ℕ) (xs : List (Option ℕ)) (i n : ℕ) → i < length xs
+    → nearest least (next_above (drop i xs) n) ≡ nearest (picked least (get_or xs i None) n) (next_above (drop (i + 1) xs) n)
+pick_more least xs i n h = at_drop_more (λ ys. nearest least (next_above ys n)) xs i None h ∙ pick least (get_or xs i None) (drop (i + 1) xs) n

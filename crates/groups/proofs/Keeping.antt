@@ -106,15 +106,15 @@ past : (stands : Objection → Bool) (x : Objection) (xs : List Objection) → f
 past stands x xs h = passed (stands x) x (first_of stands xs) h
 
 kept_apart : (g : GroupRecord) (o : Order) (n : ℕ) → StaysApart g o n (obeyed o n g)
-kept_apart g Reset n s h apart = by-choice s g.plans (eqb n 0) g.plans no_plans apart (none_apart s g.plans)
+kept_apart g Reset n s h apart = by-choice s g.plans.slots (eqb n 0) g.plans.slots no_plans apart (none_apart s g.plans.slots)
 kept_apart g Frame n s h apart = apart
 kept_apart g Message n s h apart = apart
 kept_apart g EnablePlan n s h apart =
     let a = past (against s g EnablePlan n) Unfit (NotStored ∷ Overlap ∷ NinthPlan ∷ []) h in
     let b = past (against s g EnablePlan n) NotStored (Overlap ∷ NinthPlan ∷ []) a.1 in
     let e = past (against s g EnablePlan n) Overlap (NinthPlan ∷ []) b.1 in
-    including-apart s g.plans n e.0 apart
-kept_apart g DisablePlan n s h apart = by-choice s g.plans (eqb n 0) no_plans (without g.plans n) (none_apart s g.plans) (without-apart s g.plans n apart)
+    including-apart s g.plans.slots n e.0 apart
+kept_apart g DisablePlan n s h apart = by-choice s g.plans.slots (eqb n 0) no_plans (without g.plans.slots n) (none_apart s g.plans.slots) (without-apart s g.plans.slots n apart)
 kept_apart g Power n s h apart = apart
 kept_apart g Enable n s h apart = apart
 

@@ -34,6 +34,6 @@ module _ (s : Store) (t : Moment) where
 pub any_order : (s : Store) (t : DateTime) (g : GroupRecord) (r : Option Due) → r ≡ due_of s t g → AnyOrder s t g r
 unfolding due_of planned
 any_order s t g r q apart none on i d h =
-    let e = only s (moment_of t) g.plans i d apart h in
+    let e = only s (moment_of t) g.plans.slots i d apart h in
     q ∙ cond-true (g.powered && g.enabled) (where_kept s (wanted_of s t g)) None on
-    ∙ ap (where_kept s) (ap (λ (o : Option Direct). elim o [ None ↦ planned s t g.plans | Some q ↦ Some (ordered q) ]) none ∙ e)
+    ∙ ap (where_kept s) (ap (λ (o : Option Direct). elim o [ None ↦ planned s t g.plans.slots | Some q ↦ Some (ordered q) ]) none ∙ e)

@@ -19,5 +19,5 @@ Apart s xs = (i j w m : ℕ) → i < j → runs_at s w m (slice_index_or xs i No
 -- Where the enabled plans are apart, their order does not matter: without a direct order, what any of them has at the
 -- minute is due.
 abbrev pub AnyOrder : Store → DateTime → GroupRecord → Option Due → Type 0
-AnyOrder s t g r = Apart s g.plans → g.direct ≡ None → (g.powered && g.enabled) ≡ true
-    → (i : ℕ) (d : Due) → slot_due s (moment_of t) (slice_index_or g.plans i None) ≡ Some d → r ≡ where_kept s (Some d)
+AnyOrder s t g r = Apart s g.plans.slots → g.direct ≡ None → (g.powered && g.enabled) ≡ true
+    → (i : ℕ) (d : Due) → slot_due s (moment_of t) (slice_index_or g.plans.slots i None) ≡ Some d → r ≡ where_kept s (Some d)

@@ -58,7 +58,7 @@ planned s t plans = first_due s (moment_of t) plans
 
 -- the direct order comes before the plans
 abbrev pub wanted_of : Store → DateTime → GroupRecord → Option Due
-wanted_of s t g = elim g.direct [ None ↦ planned s t g.plans | Some d ↦ Some (ordered d) ]
+wanted_of s t g = elim g.direct [ None ↦ planned s t g.plans.slots | Some d ↦ Some (ordered d) ]
 
 -- the frame or message that is named is stored
 abbrev pub is_kept : Store → Wanted → Bool

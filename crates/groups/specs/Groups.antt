@@ -7,13 +7,13 @@ use Rattle.groups.specs.Plans.{no_plans}
 
 -- A group at first: with power, enabled, nothing ordered.
 abbrev pub opening : GroupRecord
-opening = record { direct = None; plans = no_plans; powered = true; enabled = true }
+opening = record { direct = None; plans = record { slots = no_plans }; powered = true; enabled = true }
 
 abbrev pub with_direct : Option Direct → GroupRecord → GroupRecord
 with_direct d g = record { direct = d; plans = g.plans; powered = g.powered; enabled = g.enabled }
 
 abbrev pub with_plans : List (Option ℕ) → GroupRecord → GroupRecord
-with_plans xs g = record { direct = g.direct; plans = xs; powered = g.powered; enabled = g.enabled }
+with_plans xs g = record { direct = g.direct; plans = record { slots = xs }; powered = g.powered; enabled = g.enabled }
 
 abbrev pub with_power : Bool → GroupRecord → GroupRecord
 with_power b g = record { direct = g.direct; plans = g.plans; powered = b; enabled = g.enabled }

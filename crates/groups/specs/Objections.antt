@@ -58,11 +58,11 @@ crossed s (Some p) xs = crosses_any s p xs
 
 -- a plan that is not enabled yet shares a minute with one that is
 abbrev pub overlaps : Store → GroupRecord → ℕ → Bool
-overlaps s g n = cond (includes g.plans n) false (crossed s (slot_of s.plans n) g.plans)
+overlaps s g n = cond (includes g.plans.slots n) false (crossed s (slot_of s.plans n) g.plans.slots)
 
 -- a plan that is not enabled yet finds every slot taken
 abbrev pub ninth : GroupRecord → ℕ → Bool
-ninth g n = cond (includes g.plans n) false (full g.plans)
+ninth g n = cond (includes g.plans.slots n) false (full g.plans.slots)
 
 -- only the enabling of a plan can meet other plans
 abbrev pub enabling : Order → Bool
@@ -94,4 +94,4 @@ objection_to s g o n = first_of (against s g o n) in_order
 
 -- An order that nothing stands against leaves enabled plans apart that were.
 abbrev pub StaysApart : GroupRecord → Order → ℕ → GroupRecord → Type 0
-StaysApart before o n after = (s : Store) → objection_to s before o n ≡ None → Apart s before.plans → Apart s after.plans
+StaysApart before o n after = (s : Store) → objection_to s before o n ≡ None → Apart s before.plans.slots → Apart s after.plans.slots

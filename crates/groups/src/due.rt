@@ -82,7 +82,7 @@ impl Moment {
 
     // What the first plan that covers the minute has due.
     fn first_due(self, store: &Store, plans: &EnabledPlans) -> Option<Due>
-        ensures { result ≡ first_due store.now self plans.now }
+        ensures { result ≡ first_due store.now self plans.now.slots }
     {
         for slot in &plans.slots {
             if let Some(due) = self.slot_due(store, *slot) {

@@ -58,7 +58,7 @@ impl GroupRecord {
     }
 
     pub fn is_enabled(&self, plan: u8) -> bool
-        ensures { result ≡ includes self.now.plans plan }
+        ensures { result ≡ includes self.now.plans.slots plan }
     {
         self.plans.includes(plan)
     }
@@ -66,8 +66,8 @@ impl GroupRecord {
     // The least enabled plan above a number: from 0 on, these are all of them, rising.
     #[tactic(auto, using(crate::proofs::Enabling::next_follows))]
     pub fn next_plan(&self, above: u8) -> Option<u8>
-        ensures value { result ≡ next_above self.now.plans above }
-        ensures meaning { Follows self.now.plans above result }
+        ensures value { result ≡ next_above self.now.plans.slots above }
+        ensures meaning { Follows self.now.plans.slots above result }
     {
         self.plans.next_above(above)
     }
@@ -75,8 +75,8 @@ impl GroupRecord {
     // Enables a plan; one that is enabled already stays as it is.
     #[tactic(auto, using(crate::proofs::Enabling::put_joins))]
     pub fn enable_plan(&mut self, plan: u8)
-        ensures after { self.new ≡ with_plans (including self.old.plans plan) self.old }
-        ensures meaning { Joins self.old.plans plan self.new.plans }
+        ensures after { self.new ≡ with_plans (including self.old.plans.slots plan) self.old }
+        ensures meaning { Joins self.old.plans.slots plan self.new.plans.slots }
     {
         if !self.is_enabled(plan) {
             self.plans.put(plan);
@@ -86,8 +86,8 @@ impl GroupRecord {
     // Disables a plan, at an order or since it is set anew.
     #[tactic(auto, using(crate::proofs::Enabling::without_leaves))]
     pub fn disable_plan(&mut self, plan: u8)
-        ensures after { self.new ≡ with_plans (without self.old.plans plan) self.old }
-        ensures meaning { Leaves self.old.plans plan self.new.plans }
+        ensures after { self.new ≡ with_plans (without self.old.plans.slots plan) self.old }
+        ensures meaning { Leaves self.old.plans.slots plan self.new.plans.slots }
     {
         self.plans.remove(plan);
     }

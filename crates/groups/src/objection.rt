@@ -63,7 +63,7 @@ fn crosses(store: &Store, plan: &Plan, slot: Option<u8>) -> bool
 }
 
 fn crosses_any(store: &Store, plan: &Plan, plans: &EnabledPlans) -> bool
-    ensures { result ≡ crosses_any store.now plan.now plans.now }
+    ensures { result ≡ crosses_any store.now plan.now plans.now.slots }
 {
     plans.slots.iter().any(|slot| crosses(store, plan, *slot))
 }

@@ -1,12 +1,9 @@
-use Rattle.std.proofs.Common.{ℕ, ltb, sym, ◌∙◌, rules}
-use Rattle.std.proofs.lemmas.Iterator.Adapters.{option_map_id}
-use Rattle.std.proofs.lemmas.Iterator.Consumers.{YieldsList-from_copied, YieldsList-from_filter, min_from_yields_List}
-use Rattle.records.proofs.Filled.{filled_road}
+use Rattle.std.proofs.Common.{arith, rules, ◌≡◌, get_or, None, sym, ◌∙◌}
+use Rattle.groups.proofs.Enabling.{picked, pick_more}
 use Rattle.groups.proofs.plans.EnabledPlans.next_above.Goals as goal
 use borrow.Author.Tests.{tests}
 
-pub returns : goal.returns
-returns c =
-    sym (option_map_id c.min.result) ∙ min_from_yields_List _ c.min.result c.min.ensures.ran
-    (YieldsList-from_filter _ (λ (m : ℕ). ltb c.args.number m) (YieldsList-from_copied (filled_road c.args.self.now (cc) (cc) (cc) (cc)))
-    c.filter.ensures.closure (λ x b q k. search (rules, tests)))
+pub loop-slot-preserved : goal.loop-slot-preserved
+loop-slot-preserved c =
+    let e : c.match-slot.least ≡ picked c.loop-slot.least (get_or c.args.self.now.slots c.loop-slot.slot-index None) c.args.number = search (rules, tests) in
+    rw e (sym (pick_more c.loop-slot.least c.args.self.now.slots c.loop-slot.slot-index c.args.number (omega arith)) ∙ c.loop-slot.invariant)

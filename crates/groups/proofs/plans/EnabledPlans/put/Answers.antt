@@ -8,10 +8,10 @@ use borrow.Author.Tests.{tests}
 
 pub returns-in-Some : goal.returns-in-Some
 returns-in-Some c =
-    let e = position_from_yields_List (is_none {T = ℕ}) _ _ _ c.position.ensures.ran (YieldsList-from_slice c.args.self.now (cc)) (λ x b q k. search (rules, tests)) in
-    rw c.self.view_is (put_some c.args.self.now c.args.plan c.in-Some.free (sym e ∙ c.in-Some.is))
+    let e = position_from_yields_List (is_none {T = ℕ}) _ _ _ c.position.ensures.ran (YieldsList-from_slice c.args.self.now.slots (cc)) (λ x b q k. search (rules, tests)) in
+    put_some c.args.self.now.slots c.args.plan c.in-Some.free (sym e ∙ c.in-Some.is)
 
 pub returns-in_default : goal.returns-in_default
 returns-in_default c =
-    let e = position_from_yields_List (is_none {T = ℕ}) _ _ _ c.position.ensures.ran (YieldsList-from_slice c.args.self.now (cc)) (λ x b q k. search (rules, tests)) in
-    put_none c.args.self.now c.args.plan (sym e ∙ c.in_default.is)
+    let e = position_from_yields_List (is_none {T = ℕ}) _ _ _ c.position.ensures.ran (YieldsList-from_slice c.args.self.now.slots (cc)) (λ x b q k. search (rules, tests)) in
+    put_none c.args.self.now.slots c.args.plan (sym e ∙ c.in_default.is)

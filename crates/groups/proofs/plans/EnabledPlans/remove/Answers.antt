@@ -5,4 +5,4 @@ use Rattle.groups.proofs.plans.EnabledPlans.remove.Goals as goal
 
 pub returns : goal.returns
 returns c =
-    let e = mapped _ (cleared c.args.plan) _ c.self.inside.slots c.map-self-inside.result (λ x y q k. search rules) 8 None c.map-self-inside.ensures.items c.self.invariant in cc
+    let e = mapped _ (cleared c.args.plan) _ c.args.self.now.slots c.map-self.result (λ x y q k. search rules) 8 None c.map-self.ensures.items (cc) in cc
