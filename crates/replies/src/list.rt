@@ -1,6 +1,7 @@
 // A list in a reply: how many entries it has, and then each of them.
 ghost use Rattle.std.specs.Prelude.{◌≡◌, ℕ, List, ◌++◌, take};
 ghost use Rattle.replies.specs.List.{list_bytes};
+ghost use Rattle.replies.specs.Reply.{contents};
 
 use crate::reply::Reply;
 
@@ -9,14 +10,14 @@ pub(crate) trait Entry {
     ghost laid: { Self → List ℕ };
 
     fn lay(&self, reply: &mut Reply)
-        ensures { reply.new ≡ take 768 (reply.old ++ laid self.now) };
+        ensures { contents reply.new ≡ take 768 (contents reply.old ++ laid self.now) };
 }
 
 impl Reply {
     // The list of the first entries, at most so many.
     #[tactic(auto, unfolding(crate::specs::List::list_bytes))]
     pub(crate) fn push_list<T: Entry>(&mut self, entries: &[T], most: u8)
-        ensures { self.new ≡ take 768 (self.old ++ list_bytes T.laid (take most entries.now)) }
+        ensures { contents self.new ≡ take 768 (contents self.old ++ list_bytes T.laid (take most entries.now)) }
     {
         let listed = &entries[..entries.len().min(most as usize)];
         self.push(listed.len() as u8);
@@ -27,7 +28,7 @@ impl Reply {
 
     // What stands before a list, and the list of the first entries, at most so many.
     pub(crate) fn listing<T: Entry>(head: &[u8], entries: &[T], most: u8) -> Reply
-        ensures { result ≡ take 768 (head.now ++ list_bytes T.laid (take most entries.now)) }
+        ensures { contents result ≡ take 768 (head.now ++ list_bytes T.laid (take most entries.now)) }
     {
         let mut reply = Reply::cut(head);
         reply.push_list(entries, most);

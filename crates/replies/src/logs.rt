@@ -1,6 +1,7 @@
 // The replies that list a log: faults, and accepted group orders. The newest entry comes first, as a log lists them.
 ghost use Rattle.std.specs.Prelude.{◌≡◌, take};
 ghost use Rattle.replies.specs.Logs.{event_number, fault_bytes, fault_log_reply, order_bytes, order_log_reply};
+ghost use Rattle.replies.specs.Reply.{contents};
 
 use crate::list::Entry;
 use crate::reply::Reply;
@@ -68,14 +69,14 @@ impl Entry for OrderEntry {
 impl Reply {
     // The first 20 entries of a fault log.
     pub fn fault_log(entries: &[FaultEntry]) -> Reply
-        ensures { result ≡ fault_log_reply (take 20 entries.now) }
+        ensures { contents result ≡ fault_log_reply (take 20 entries.now) }
     {
         Reply::listing(&[FAULT_LOG], entries, FAULTS_MOST)
     }
 
     // The first 64 entries of an order log.
     pub fn order_log(entries: &[OrderEntry]) -> Reply
-        ensures { result ≡ order_log_reply (take 64 entries.now) }
+        ensures { contents result ≡ order_log_reply (take 64 entries.now) }
     {
         Reply::listing(&[ORDER_LOG], entries, ORDERS_MOST)
     }

@@ -1,6 +1,7 @@
 // The reply that lists the enabled plans.
 ghost use Rattle.std.specs.Prelude.{◌≡◌, take};
 ghost use Rattle.replies.specs.Plans.{enabled_plan_bytes, enabled_plans_reply};
+ghost use Rattle.replies.specs.Reply.{contents};
 
 use crate::list::Entry;
 use crate::reply::Reply;
@@ -27,7 +28,7 @@ impl Entry for EnabledPlan {
 impl Reply {
     // The first 96 of the plans, in the order given.
     pub fn enabled_plans(plans: &[EnabledPlan]) -> Reply
-        ensures { result ≡ enabled_plans_reply (take 96 plans.now) }
+        ensures { contents result ≡ enabled_plans_reply (take 96 plans.now) }
     {
         Reply::listing(&[ENABLED_PLANS], plans, PLANS_MOST)
     }

@@ -1,6 +1,7 @@
 // The reply that tells the readings.
 ghost use Rattle.std.specs.Prelude.{◌≡◌};
 ghost use Rattle.replies.specs.Readings.{readings_reply};
+ghost use Rattle.replies.specs.Reply.{contents};
 
 use crate::reply::Reply;
 use analog::Readings;
@@ -11,7 +12,7 @@ const SLOTS: u8 = 3;
 
 impl Reply {
     pub fn readings(readings: &Readings) -> Reply
-        ensures { result ≡ readings_reply readings.now }
+        ensures { contents result ≡ readings_reply readings.now }
     {
         let mut reply = Reply::cut(&[READINGS, SLOTS]);
         reply.extend(&readings.bytes());

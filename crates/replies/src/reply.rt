@@ -1,8 +1,7 @@
 ghost use Rattle.std.specs.Prelude.{◌≡◌, ◌≤◌, [], ◌∷◌, ◌++◌, length, take};
-ghost use Rattle.replies.specs.Reply.{word};
+ghost use Rattle.replies.specs.Reply.{contents, Alike, word};
 
 use octets::Octets;
-use std::marker::Model;
 
 // The message of a reply, as it is filled: at most 768 bytes.
 #[derive(Clone, Copy)]
@@ -10,20 +9,12 @@ pub struct Reply {
     message: Octets<768>,
 }
 
-impl Model for Reply {
-    ghost use Rattle.std.specs.Prelude.{ℕ, List};
-
-    ghost Value = { List ℕ };
-
-    ghost view = { λ r. r.message };
-
-    ghost inverse = { λ xs. record { message = xs } };
-}
-
 impl Reply {
     // A reply of no bytes.
+    #[tactic(auto, using(crate::proofs::Filling::alike), unfolding(crate::specs::Reply::contents))]
     pub fn new() -> Reply
-        ensures { result ≡ [] }
+        ensures bytes { contents result ≡ [] }
+        ensures alike { Alike }
     {
         Reply {
             message: Octets::new(),
@@ -31,8 +22,9 @@ impl Reply {
     }
 
     // The first bytes, as many as fit.
+    #[tactic(auto, unfolding(crate::specs::Reply::contents))]
     pub(crate) fn cut(bytes: &[u8]) -> Reply
-        ensures { result ≡ take 768 bytes.now }
+        ensures { contents result ≡ take 768 bytes.now }
     {
         Reply {
             message: Octets::cut(bytes),
@@ -40,30 +32,33 @@ impl Reply {
     }
 
     // The message.
+    #[tactic(auto, unfolding(crate::specs::Reply::contents))]
     pub fn bytes(&self) -> &[u8]
-        ensures value { result.now ≡ self.now }
+        ensures value { result.now ≡ contents self.now }
         ensures most { length result.now ≤ 768 }
     {
         self.message.as_slice()
     }
 
     // One byte more, where it fits.
+    #[tactic(auto, unfolding(crate::specs::Reply::contents))]
     pub fn push(&mut self, byte: u8)
-        ensures { self.new ≡ take 768 (self.old ++ byte ∷ []) }
+        ensures { contents self.new ≡ take 768 (contents self.old ++ byte ∷ []) }
     {
         self.message.push(byte);
     }
 
     // More bytes, as many as fit.
+    #[tactic(auto, unfolding(crate::specs::Reply::contents))]
     pub fn extend(&mut self, bytes: &[u8])
-        ensures { self.new ≡ take 768 (self.old ++ bytes.now) }
+        ensures { contents self.new ≡ take 768 (contents self.old ++ bytes.now) }
     {
         self.message.extend(bytes);
     }
 
     // A word more, high byte first.
     pub fn push_word(&mut self, number: u16)
-        ensures { self.new ≡ take 768 (self.old ++ word number) }
+        ensures { contents self.new ≡ take 768 (contents self.old ++ word number) }
     {
         self.extend(&number.to_be_bytes());
     }

@@ -1,6 +1,7 @@
 // The status reply: the controller's state, and a row for each sign.
 ghost use Rattle.std.specs.Prelude.{◌≡◌, take};
 ghost use Rattle.replies.specs.Status.{named_bytes, row_bytes, status_reply};
+ghost use Rattle.replies.specs.Reply.{contents};
 
 use crate::list::Entry;
 use crate::reply::Reply;
@@ -63,7 +64,7 @@ impl Entry for Row {
 impl Reply {
     // The status, with the rows of at most 12 signs.
     pub fn status(status: Status, rows: &[Row]) -> Reply
-        ensures { result ≡ status_reply status (take 12 rows.now) }
+        ensures { contents result ≡ status_reply status (take 12 rows.now) }
     {
         let mut reply = Reply::cut(&[STATUS, u8::from(status.online), status.application_error]);
         reply.push_date_time(status.at);

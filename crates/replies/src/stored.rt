@@ -1,6 +1,7 @@
 // The replies that tell what is stored: a record's command, a list of one kind, and a summary of all kinds.
 ghost use Rattle.std.specs.Prelude.{◌≡◌, take};
 ghost use Rattle.replies.specs.Stored.{listed_bytes, stored_list_reply, stored_summary_reply};
+ghost use Rattle.replies.specs.Reply.{contents};
 
 use crate::list::Entry;
 use crate::reply::Reply;
@@ -31,21 +32,21 @@ impl Entry for Listed {
 impl Reply {
     // The command of a stored record, as it was given; no command is longer than a reply.
     pub fn command(bytes: &[u8]) -> Reply
-        ensures { result ≡ take 768 bytes.now }
+        ensures { contents result ≡ take 768 bytes.now }
     {
         Reply::cut(bytes)
     }
 
     // The first 255 of the stored records of a kind, in the order given.
     pub fn stored_list(kind: RecordKind, listed: &[Listed]) -> Reply
-        ensures { result ≡ stored_list_reply kind (take 255 listed.now) }
+        ensures { contents result ≡ stored_list_reply kind (take 255 listed.now) }
     {
         Reply::listing(&[STORED, kind.listing_number()], listed, LISTED_MOST)
     }
 
     // A bit for each number: 32 bytes for frames, then for messages, then for plans.
     pub fn stored_summary(bits: &[u8; 96]) -> Reply
-        ensures { result ≡ stored_summary_reply bits.now }
+        ensures { contents result ≡ stored_summary_reply bits.now }
     {
         let mut reply = Reply::cut(&[STORED, SUMMARY]);
         reply.extend(bits);
