@@ -11,6 +11,7 @@ use Rattle.controller.specs.declared.call.Call.TheVariants.{Line, Tick, Report, 
 use Rattle.controller.specs.declared.service.Controller.{Controller}
 use Rattle.controller.specs.declared.site.Site.{Site}
 use Rattle.controller.specs.Due.{View, view, absent, due_number, stored_under, shown_by, face_of, face_due, frame_due, sign_group}
+use Rattle.controller.specs.Site.{groups_of}
 use Rattle.controller.specs.Run.{step, opening, view_after, moves, is_made, made, with_report, Acted, Reached}
 use Rattle.controller.proofs.Shown.{shown-same}
 
@@ -34,7 +35,7 @@ steady : (s : Site) (lent : ℕ) (v : View) (t : Shape → Bool) (call : Call) (
     → cond (moves call) (face_due (on s lent v call) t) face ≡ face_due (on s lent v call) t
 steady s lent v t (Line b) face e = e
 steady s lent v t (Tick b) face e = refl
-steady s lent v t (Report sign code) face e = e ∙ report-steady s v sign code t (leb 20 lent) (has (length s.sign_groups) sign)
+steady s lent v t (Report sign code) face e = e ∙ report-steady s v sign code t (leb 20 lent) (has (length (groups_of s)) sign)
 steady s lent v t (Reading slot reading state) face e = e
 
 -- one call more of a history
@@ -90,7 +91,7 @@ pub reached-none : (s : Site) (takes : ℕ → Shape → Bool) (c : Controller) 
 reached-none s takes c face opened unlit = record {
   site = ap (λ x. x.site) opened;
   state = λ g. ap (view g) opened;
-  faces = λ k lt. unlit (k + 1) ∙ sym (ap (λ o. face_of (shown_by (takes (k + 1)) (stored_under empty_store o))) (none-due s (get_or s.sign_groups k 0)));
+  faces = λ k lt. unlit (k + 1) ∙ sym (ap (λ o. face_of (shown_by (takes (k + 1)) (stored_under empty_store o))) (none-due s (get_or (groups_of s) k 0)));
 }
 
 -- A list that is run to its end is a history.

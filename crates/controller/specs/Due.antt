@@ -9,6 +9,7 @@ use Rattle.records.specs.Slots.{slot_of}
 use Rattle.controller.specs.declared.common.Common.{Common}
 use Rattle.controller.specs.declared.group.GroupRecord.{GroupRecord}
 use Rattle.controller.specs.declared.service.Controller.{Controller}
+use Rattle.controller.specs.Site.{groups_of}
 
 -- The controller as one group sees it: what every group sees, and its own record.
 pub record View : Type 0 where
@@ -51,8 +52,8 @@ face_due v takes = face_of (shown_by takes (frame_due v))
 
 -- the group of the sign at place k
 abbrev pub sign_group : Controller → ℕ → ℕ
-sign_group c k = slice_index c.site.sign_groups k
+sign_group c k = slice_index (groups_of c.site) k
 
 -- The frame that an attached sign shows; a sign that is not attached shows none.
 abbrev pub shown_on : Controller → (ℕ → Shape → Bool) → ℕ → Option Frame
-shown_on c takes s = cond (has (length c.site.sign_groups) s) (shown_by (takes s) (frame_due (view (sign_group c (s - 1)) c))) None
+shown_on c takes s = cond (has (length (groups_of c.site)) s) (shown_by (takes s) (frame_due (view (sign_group c (s - 1)) c))) None

@@ -13,6 +13,7 @@ use Rattle.records.specs.Stores.{stored}
 use Rattle.controller.specs.declared.common.Common.{Common}
 use Rattle.controller.specs.declared.faults.FaultLog.{FaultLog}
 use Rattle.controller.specs.declared.site.Site.{Site}
+use Rattle.journal.specs.Logs.{empty}
 
 -- The verdict on a message.
 abbrev pub verdict_on : Site → Common → List ℕ → Judgement
@@ -42,7 +43,7 @@ clock_after (rejected r) c = c
 
 -- Emptying the fault log; its numbering goes on.
 abbrev pub empty_log : FaultLog → FaultLog
-empty_log l = record { journal = 0; next_entry = l.next_entry }
+empty_log l = record { journal = empty; next_entry = l.next_entry }
 
 abbrev pub emptied_by : Sent → FaultLog → FaultLog
 emptied_by start_session l = l

@@ -16,6 +16,7 @@ use Rattle.controller.specs.declared.common.Common.{Common}
 use Rattle.controller.specs.declared.service.Controller.{Controller}
 use Rattle.controller.specs.declared.site.Site.{Site}
 use Rattle.controller.specs.Due.{View, view, face_due, sign_group}
+use Rattle.controller.specs.Site.{groups_of}
 use Rattle.controller.specs.Faults.{counted_change, entered_change}
 use Rattle.controller.specs.State.{opening_common, opening_group}
 
@@ -71,7 +72,7 @@ abbrev pub report_verdict : Bool → Bool → Result (Unit {0}) CallRefusal
 report_verdict enough attached = cond enough (cond attached (Ok tt) (Err NotAttached)) (Err ShortMemory)
 
 abbrev pub report_answer : Site → ℕ → ℕ → Result (Unit {0}) CallRefusal
-report_answer s sign lent = report_verdict (nat_le 20 lent) (has (length s.sign_groups) sign)
+report_answer s sign lent = report_verdict (nat_le 20 lent) (has (length (groups_of s)) sign)
 
 -- What a reading answers.
 abbrev pub reading_answer : ℕ → Measured → ℕ → Result (Unit {0}) CallRefusal
@@ -100,7 +101,7 @@ answer s lent (Reading slot reading state) = reading_answer slot reading state
 abbrev pub step : Site → View → Call → View
 step s v (Line b) = v
 step s v (Tick b) = record { common = after_tick s b v.common; group = v.group }
-step s v (Report sign code) = record { common = cond (has (length s.sign_groups) sign) (with_report sign code v.common) v.common; group = v.group }
+step s v (Report sign code) = record { common = cond (has (length (groups_of s)) sign) (with_report sign code v.common) v.common; group = v.group }
 step s v (Reading slot reading state) = record { common = with_reading slot reading state v.common; group = v.group }
 
 -- The view of group g after a list of calls from the opening of service.
@@ -125,7 +126,7 @@ memory_after s c (Reading slot reading state) m = m
 -- its group is lit with it, and each other attached sign is dark.
 abbrev pub SignsShowDue : Site → (ℕ → Shape → Bool) → List Call → (ℕ → Face) → Type 0
 SignsShowDue s takes calls face =
-    (k : ℕ) → k < length s.sign_groups → face (k + 1) ≡ face_due (view_after s (slice_index s.sign_groups k) calls) (takes (k + 1))
+    (k : ℕ) → k < length (groups_of s) → face (k + 1) ≡ face_due (view_after s (slice_index (groups_of s) k) calls) (takes (k + 1))
 
 -- A history of calls leads from the opening of service to a controller and to faces: each group has the view that the
 -- history gives it, and signs show what is due.
@@ -138,6 +139,6 @@ pub record Reached (s : Site) (takes : ℕ → Shape → Bool) (history : List C
 pub record Acted (lent : ℕ) (call : Call) (before after : Controller) (takes : ℕ → Shape → Bool) (showed shows : ℕ → Face) : Type 0 where
   pub site : after.site ≡ before.site
   pub state : (g : ℕ) → view g after ≡ cond (is_made lent call) (step before.site (view g before) call) (view g before)
-  pub attached : (k : ℕ) → k < length before.site.sign_groups
+  pub attached : (k : ℕ) → k < length (groups_of before.site)
       → shows (k + 1) ≡ cond (moves call) (face_due (view (sign_group before k) after) (takes (k + 1))) (showed (k + 1))
-  pub others : (k : ℕ) → length before.site.sign_groups ≤ k → shows (k + 1) ≡ showed (k + 1)
+  pub others : (k : ℕ) → length (groups_of before.site) ≤ k → shows (k + 1) ≡ showed (k + 1)

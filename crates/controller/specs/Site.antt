@@ -1,17 +1,22 @@
 -- What commissioning leaves.
-use Rattle.std.specs.Prelude.{ℕ, Bool, cond, [], ◌∷◌, ◌++◌, Ok, Err, Result}
+use Rattle.std.specs.Prelude.{ℕ, Bool, cond, List, [], ◌∷◌, ◌++◌, Ok, Err, Result}
+use Rattle.octets.specs.Held.{held, stretch}
 use Rattle.rack.specs.declared.refusal.Refusal.{Refusal}
 use Rattle.rack.specs.declared.refusal.Refusal.TheVariants.{Unfit}
 use Rattle.rack.specs.Face.{has}
 use Rattle.session.specs.declared.Offsets.{Offsets}
 use Rattle.controller.specs.declared.site.Site.{Site}
 
+-- the group of each attached sign
+abbrev pub groups_of : Site → List ℕ
+groups_of s = held s.sign_groups
+
 abbrev pub offsets : ℕ → ℕ → Offsets
 offsets seed password = record { seed = seed; password = password }
 
 -- Before anything is set.
 abbrev pub fresh : Site
-fresh = record { address = 1; offsets = offsets 0 0; silence_limit = 180; sign_groups = [] }
+fresh = record { address = 1; offsets = offsets 0 0; silence_limit = 180; sign_groups = stretch 12 [] }
 
 abbrev pub with_address : ℕ → Site → Site
 with_address a s = record { address = a; offsets = s.offsets; silence_limit = s.silence_limit; sign_groups = s.sign_groups }
@@ -30,7 +35,7 @@ with_silence_limit l s = record { address = s.address; offsets = s.offsets; sile
 
 -- The next sign is attached to a group.
 abbrev pub with_sign : ℕ → Site → Site
-with_sign g s = record { address = s.address; offsets = s.offsets; silence_limit = s.silence_limit; sign_groups = s.sign_groups ++ g ∷ [] }
+with_sign g s = record { address = s.address; offsets = s.offsets; silence_limit = s.silence_limit; sign_groups = stretch 12 (groups_of s ++ g ∷ []) }
 
 -- Groups are numbered 1 to 12.
 abbrev pub is_group : ℕ → Bool

@@ -9,6 +9,7 @@ use Rattle.replies.specs.Status.{status_reply}
 use Rattle.session.specs.Sessions.{is_open}
 use Rattle.controller.specs.declared.service.Controller.{Controller}
 use Rattle.controller.specs.Due.{group_at, sign_group, shown_on}
+use Rattle.controller.specs.Site.{groups_of}
 
 -- the number and revision of a frame that is shown
 abbrev pub name_of : Option Frame → Option Named
@@ -36,4 +37,4 @@ abbrev pub status_of : Controller → (ℕ → Shape → Bool) → ℕ → List 
 status_of c takes error =
     status_reply
     (record { online = is_open c.common.session; application_error = error; at = c.common.clock.shown; checksum = checksum_of c.common.store })
-    (rows_up_to c takes (length c.site.sign_groups))
+    (rows_up_to c takes (length (groups_of c.site)))

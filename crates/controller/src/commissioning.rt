@@ -1,9 +1,9 @@
-ghost use Rattle.std.specs.Prelude.{◌≡◌, ℕ, ◌&&◌, [], length, is_ok, if◌then◌else◌, nat_le};
+ghost use Rattle.std.specs.Prelude.{◌≡◌, ℕ, ◌&&◌, [], ◌∷◌, ◌++◌, length, is_ok, if◌then◌else◌, nat_le};
 ghost use Rattle.rack.specs.Bank.{fitting};
 ghost use Rattle.rack.specs.Face.{dark};
 ghost use Rattle.controller.specs.Faces.{SameSigns};
 ghost use Rattle.controller.specs.Run.{opening, Reached};
-ghost use Rattle.controller.specs.Site.{fresh, with_address, with_seed_offset, with_password_offset, with_silence_limit, with_sign, is_group, setting};
+ghost use Rattle.controller.specs.Site.{fresh, groups_of, with_address, with_seed_offset, with_password_offset, with_silence_limit, with_sign, is_group, setting};
 
 use crate::common::Common;
 use crate::faces;
@@ -23,8 +23,10 @@ pub struct Commissioning {
 
 impl Commissioning {
     // Begins without signs, at address 1, without offsets, with a silence limit of 180 seconds.
+    #[tactic(auto, using(octets::proofs::Alike::stretched))]
     pub fn new() -> Commissioning
-        ensures { result.site ≡ fresh }
+        ensures site { result.site ≡ fresh }
+        ensures groups { groups_of result.site ≡ [] }
     {
         Commissioning {
             site: Site {
@@ -40,9 +42,11 @@ impl Commissioning {
     }
 
     // Attaches the next sign to a group, and gives the sign's number.
+    #[tactic(auto, using(octets::proofs::Alike::stretched))]
     pub fn attach(&mut self, group: u8) -> Result<u8, Refusal>
-        ensures result { result ≡ fitting (length self.old.site.sign_groups) (is_group group) }
+        ensures result { result ≡ fitting (length (groups_of self.old.site)) (is_group group) }
         ensures after { self.new.site ≡ (if is_ok result then with_sign group self.old.site else self.old.site) }
+        ensures groups { groups_of self.new.site ≡ (if is_ok result then groups_of self.old.site ++ group ∷ [] else groups_of self.old.site) }
     {
         let signs = self.site.signs();
         if signs >= 12 {

@@ -38,7 +38,7 @@ impl Controller {
     pub fn frame_due(&self, group: u8) -> Option<&Frame>
         ensures { option_map (λ x. x.now) result ≡ frame_due (view group self.now) }
     {
-        // a `match`, and no `?`: with it a tick takes a quarter longer
+        // a `match`, and no `?`: with it a tick takes a quarter more instructions
         match self.group(group).due() {
             Some(number) => self.common.store.frame(number),
             None => None,

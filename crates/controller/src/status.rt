@@ -1,6 +1,8 @@
 ghost use Rattle.std.specs.Prelude.{◌≡◌, ◌<◌, length};
 ghost use Rattle.std.specs.Option.{option_map};
+ghost use Rattle.replies.specs.Reply.{contents};
 ghost use Rattle.controller.specs.Due.{sign_group};
+ghost use Rattle.controller.specs.Site.{groups_of};
 ghost use Rattle.controller.specs.Status.{name_of, row_at, rows_up_to, status_of};
 
 use crate::service::Controller;
@@ -39,7 +41,7 @@ impl Controller {
 
     // The rows of all attached signs, from the first on.
     fn rows<R: Rack>(&self, rack: &R) -> ArrayVec<Row, 12>
-        ensures { result.items ≡ rows_up_to self.now (R.takes rack.now) (length self.now.site.sign_groups) }
+        ensures { result.items ≡ rows_up_to self.now (R.takes rack.now) (length (groups_of self.now.site)) }
     {
         let mut rows = ArrayVec::new();
         let groups = self.site.sign_groups.as_slice();
@@ -51,7 +53,7 @@ impl Controller {
 
     // The status, with an application error code.
     pub fn status<R: Rack>(&self, rack: &R, application_error: u8) -> Reply
-        ensures { result ≡ status_of self.now (R.takes rack.now) application_error }
+        ensures { contents result ≡ status_of self.now (R.takes rack.now) application_error }
     {
         let status = Status {
             online: self.common.session.is_open(),

@@ -13,6 +13,7 @@ use Rattle.commands.specs.Orders.{code_of}
 use Rattle.commands.specs.Sent.{Sent, start_session, password, heartbeat, end_session, set_time, group_order, enabled_plans, stored_record, fault_log, empty_fault_log, order_log, readings, list_stored, refused, exactly, coded, word_at, stride, line_at, lines_at, order_form, text_form, graphic_form, message_form, plan_form, parsed}
 use Rattle.fitness.specs.Fitness.{fit, text_fits, graphic_fits, filled_line, blank_line, listed, listed_from}
 use Rattle.records.specs.AnyRecords.{record_of, Bytes, GivesBack}
+use Rattle.octets.proofs.Alike.{held-stretch}
 use Rattle.records.specs.Frames.{text_frame, graphic_frame, frame_bytes}
 use Rattle.records.specs.Messages.{message_bytes}
 use Rattle.records.specs.Plans.{entry_of, line_of, plan_of, plan_bytes}
@@ -67,6 +68,7 @@ text-back m b z =
     let d : length (drop 7 m) ≡ length m - 7 = length-drop 7 m in
     let l : length (take (get_or m 6 0) (drop 7 m)) ≡ get_or m 6 0 = length-take-le (get_or m 6 0) (drop 7 m) (omega arith) in
     let k = take_all 128 (take (get_or m 6 0) (drop 7 m)) (text-count (get_or m 1 0) (get_or m 5 0) (take (get_or m 6 0) (drop 7 m)) f) in
+    let h = held-stretch 128 (take (get_or m 6 0) (drop 7 m)) ∙ k in
     let r = body_back m 7 (get_or m 6 0) b (omega arith) in
     let q = front 7 0 m (omega arith) in cc)
     (λ _ _. tt)
@@ -86,7 +88,7 @@ graphic-back m b z =
     let d : length (drop 6 m) ≡ length m - 6 = length-drop 6 m in
     let l : length (take (get_or m 3 0 * stride (get_or m 4 0)) (drop 6 m)) ≡ get_or m 3 0 * stride (get_or m 4 0) =
     length-take-le (get_or m 3 0 * stride (get_or m 4 0)) (drop 6 m) (omega arith) in
-    let k = take_all 128 (take (get_or m 3 0 * stride (get_or m 4 0)) (drop 6 m)) (omega arith) in
+    let k = held-stretch 128 (take (get_or m 3 0 * stride (get_or m 4 0)) (drop 6 m)) ∙ take_all 128 (take (get_or m 3 0 * stride (get_or m 4 0)) (drop 6 m)) (omega arith) in
     let r = body_back m 6 (get_or m 3 0 * stride (get_or m 4 0)) b (omega arith) in
     let q = front 6 0 m (omega arith) in cc)
     (λ _ _. tt)

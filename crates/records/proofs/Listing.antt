@@ -1,7 +1,7 @@
 -- The steps of the loop that writes a listing, and what is read back of one.
-use Rattle.std.proofs.Common.{◌≡◌, ℕ, ◌+◌, ◌*◌, ◌/◌, ◌<◌, ◌≤◌, List, [], ◌∷◌, ◌++◌, length, get_or, take, drop, Some, None, Option, refl, ap, ◌∙◌, arith}
+use Rattle.std.proofs.Common.{◌≡◌, ℕ, ◌+◌, ◌-◌, ◌*◌, ◌/◌, ◌<◌, ◌≤◌, List, [], ◌∷◌, ◌++◌, length, get_or, take, drop, Some, None, Option, refl, ap, ◌∙◌, arith, length-drop, length-take-le}
 use Rattle.std.proofs.lemmas.Bool.Decides.{nat_tests}
-use Rattle.std.proofs.lemmas.List.{append-nil, length-append, take_more, take_all, take_at, drop-drop, take-append-drop, flat_map_more}
+use Rattle.std.proofs.lemmas.List.{append-nil, length-append, take_more, take_all, drop-drop, take-append-drop, flat_map_more}
 use Rattle.std.specs.List.{flat_map}
 use Rattle.std.specs.Option.{option_to_list, unwrap_or}
 use Rattle.commands.specs.declared.command.Header.{Header}
@@ -68,3 +68,14 @@ module _ {R : Type 0} where
         let l = entries_long (kept slots) in
         let k = few slots in
         (grind (arith, nat_tests), omega arith, grind (arith, nat_tests))
+
+    -- so are they behind what stands before a place of a longer memory
+    pub listed_behind : (slots : List (Option R)) (from : ℕ) (out : List ℕ) → length slots ≡ 255 → from + 765 ≤ length out
+        → (unwrap_or (listing_room header slots (take (length out - from) (drop from out))) 0 ≡ length (listing header slots))
+        × (length (listing header slots) ≤ 765)
+        × (listing_laid header slots (take (length out - from) (drop from out))
+        ≡ listing header slots ++ drop (length (listing header slots)) (take (length out - from) (drop from out)))
+    listed_behind slots from out s n =
+        let long = length-drop from out in
+        let lent : length (take (length out - from) (drop from out)) ≡ length out - from = length-take-le (length out - from) (drop from out) (omega (arith, long)) in
+        listed_whole slots (take (length out - from) (drop from out)) s (omega (arith, lent, n))

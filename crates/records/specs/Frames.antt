@@ -1,5 +1,6 @@
 -- Frames: what is kept of a text or a graphic, the face that it makes, and the command that it came by.
 use Rattle.std.specs.Prelude.{ℕ, List, [], ◌∷◌, length, take}
+use Rattle.octets.specs.Held.{held, stretch}
 use Rattle.commands.specs.declared.command.Header.{Header}
 use Rattle.rack.specs.declared.look.Kind.{Kind}
 use Rattle.rack.specs.declared.look.Kind.TheVariants.{Text, Graphic}
@@ -16,21 +17,25 @@ unfoldable pub text_frame : Header → ℕ → ℕ → ℕ → List ℕ → Fram
 text_frame h font colour b t = record {
   header = h;
   look = record { kind = Text; rows = 1; columns = length (pictured t); font = font; colour = colour; conspicuity = b };
-  picture = pictured t;
+  picture = stretch 128 t;
 }
 
 unfoldable pub graphic_frame : Header → ℕ → ℕ → ℕ → List ℕ → Frame
 graphic_frame h rows columns b p = record {
   header = h;
   look = record { kind = Graphic; rows = rows; columns = columns; font = 0; colour = 0; conspicuity = b };
-  picture = pictured p;
+  picture = stretch 128 p;
 }
 
+-- the bytes that a sign is given
+abbrev pub shown : Frame → List ℕ
+shown f = held f.picture
+
 abbrev pub frame_face : Frame → Face
-frame_face f = lit f.look f.picture
+frame_face f = lit f.look (shown f)
 
 abbrev pub shape_shown : Frame → Shape
-shape_shown f = shape_of f.look (length f.picture)
+shape_shown f = shape_of f.look (length (shown f))
 
 -- what stands before the picture in the command
 abbrev pub frame_head : Kind → Frame → List ℕ
@@ -38,4 +43,4 @@ frame_head Text f = 0x0A ∷ f.header.number ∷ f.header.revision ∷ f.look.fo
 frame_head Graphic f = 0x0B ∷ f.header.number ∷ f.header.revision ∷ f.look.rows ∷ f.look.columns ∷ f.look.conspicuity ∷ []
 
 unfoldable pub frame_bytes : Frame → List ℕ
-frame_bytes f = command_of (frame_head f.look.kind f) f.picture f.header.check
+frame_bytes f = command_of (frame_head f.look.kind f) (shown f) f.header.check

@@ -1,5 +1,5 @@
 ghost use Rattle.std.specs.Prelude.{◌≡◌, ℕ, ◌≤◌, length};
-ghost use Rattle.records.specs.Frames.{text_frame, graphic_frame, shape_shown, frame_bytes};
+ghost use Rattle.records.specs.Frames.{text_frame, graphic_frame, shown, shape_shown, frame_bytes};
 ghost use Rattle.records.specs.Writing.{room_for, laid};
 
 use crate::slots::Record;
@@ -26,7 +26,7 @@ impl Record for Frame {
 
 impl Frame {
     // A text has one row, its count as columns and its characters as picture.
-    #[tactic(auto, unfolding(crate::specs::Frames::text_frame))]
+    #[tactic(auto, using(octets::proofs::Alike::stretched), unfolding(crate::specs::Frames::text_frame))]
     pub fn text(header: Header, font: u8, colour: u8, conspicuity: u8, text: &[u8]) -> Frame
         ensures { result ≡ text_frame header font colour conspicuity text.now }
     {
@@ -46,7 +46,7 @@ impl Frame {
     }
 
     // A graphic has font and colour 0.
-    #[tactic(auto, unfolding(crate::specs::Frames::graphic_frame))]
+    #[tactic(auto, using(octets::proofs::Alike::stretched), unfolding(crate::specs::Frames::graphic_frame))]
     pub fn graphic(header: Header, rows: u8, columns: u8, conspicuity: u8, picture: &[u8]) -> Frame
         ensures { result ≡ graphic_frame header rows columns conspicuity picture.now }
     {
@@ -66,7 +66,7 @@ impl Frame {
 
     // The bytes that a sign is given.
     pub fn picture(&self) -> &[u8]
-        ensures value { result.now ≡ self.now.picture }
+        ensures value { result.now ≡ shown self.now }
         ensures few { length result.now ≤ 128 }
     {
         self.picture.as_slice()

@@ -1,5 +1,6 @@
 ghost use Rattle.std.specs.Prelude.{◌≡◌, ℕ, ◌≤◌};
 ghost use Rattle.std.specs.List.{flat_map};
+ghost use Rattle.octets.specs.Held.{held};
 ghost use Rattle.records.specs.Messages.{total_of, held_at, frame_at, pair_of, message_bytes, Example};
 ghost use Rattle.records.specs.Writing.{room_for, laid};
 
@@ -46,7 +47,7 @@ fn held_at(spans: &[Span; 6], second: u32) -> Option<u8>
 
 // The pairs of frame and seconds.
 fn pairs(spans: &[Span; 6]) -> Octets<12>
-    ensures { result ≡ flat_map pair_of spans.now }
+    ensures { held result ≡ flat_map pair_of spans.now }
 {
     let mut pairs = Octets::new();
     for span in spans {

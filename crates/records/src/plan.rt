@@ -1,5 +1,6 @@
 ghost use Rattle.std.specs.Prelude.{◌≡◌, ℕ, Decides};
 ghost use Rattle.std.specs.List.{flat_map};
+ghost use Rattle.octets.specs.Held.{held};
 ghost use Rattle.records.specs.Plans.{entry_of, covers, meets, runs_on, covering, entry_at, meets_any, clashing, both_run, common_day, any_meet, shares, Overlapping, SharesMinute, line_of, plan_of, plan_bytes};
 ghost use Rattle.records.specs.Writing.{room_for, laid};
 
@@ -86,7 +87,7 @@ fn line_of(entry: Option<Entry>) -> [u8; 6]
 
 #[tactic(auto, using(crate::proofs::Lines::lines_more))]
 fn lines(entries: &[Option<Entry>; 6]) -> Octets<36>
-    ensures { result ≡ flat_map line_of entries.now }
+    ensures { held result ≡ flat_map line_of entries.now }
 {
     let mut lines = Octets::new();
     for entry in entries {

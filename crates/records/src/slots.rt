@@ -64,7 +64,7 @@ pub fn list<R: Record>(slots: &[Option<R>], out: &mut [u8]) -> Option<usize>
     if out.len() / 3 < slots.len() {
         return None;
     }
-    // a `for` that counts, and no chain: of 255 slots the chain takes twice as long
+    // a `for` that counts, and no chain: of 255 slots a chain takes 1.4 times as long
     let mut count = 0;
     for slot in slots {
         if let Some(kept) = slot {

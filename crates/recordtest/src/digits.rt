@@ -1,4 +1,5 @@
 ghost use Rattle.std.specs.Prelude.{◌≤◌, length};
+ghost use Rattle.octets.specs.Held.{held};
 
 use octets::Octets;
 use std::io;
@@ -15,7 +16,7 @@ fn digit(byte: u8) -> u8
 
 // The bytes that pairs of hex digits spell, the first 800 of them; a digit without another is passed over.
 pub(crate) fn read_hex(text: &str) -> Octets<800>
-    ensures { length result ≤ 800 }
+    ensures { length (held result) ≤ 800 }
 {
     let mut bytes = Octets::new();
     for pair in text.as_bytes().chunks_exact(2).take(800) {

@@ -2,6 +2,7 @@ use Rattle.std.proofs.Common.{◌≡◌, ◌+◌, ◌<◌, [], ◌∷◌, ◌++�
 use Rattle.controller.specs.Faces.{SameSigns}
 use Rattle.controller.proofs.Shown.{same-signs}
 use Rattle.controller.specs.declared.call.Call.TheVariants.{Line}
+use Rattle.controller.specs.Site.{groups_of}
 use Rattle.controller.specs.Run.{view_after, made, Reached}
 use Rattle.controller.proofs.Reaching.{reached-all, reached-next, due-same}
 use Rattle.controller.proofs.run.serve.Goals as goal
@@ -40,7 +41,7 @@ returns g c =
     (reached-all lent _ (g.R.Rack.takes rack) calls c.loop-call.call-index c.loop-call.controller (g.R.Rack.face rack) c.loop-call-test.false c.loop-call.invariant.0) in
     record {
       shows_due = λ k lt. all.faces k lt
-          ∙ sym (due-same (view_after site (get_or site.sign_groups k 0) (made lent calls)) (g.R.Rack.takes c.args.rack.now (k + 1)) (g.R.Rack.takes rack (k + 1)) (same.taking (k + 1)));
+          ∙ sym (due-same (view_after site (get_or (groups_of site) k 0) (made lent calls)) (g.R.Rack.takes c.args.rack.now (k + 1)) (g.R.Rack.takes rack (k + 1)) (same.taking (k + 1)));
       reached = all;
       same = same;
     }

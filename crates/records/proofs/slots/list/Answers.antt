@@ -1,4 +1,4 @@
-use Rattle.std.proofs.Common.{arith, length, take, length-take-le}
+use Rattle.std.proofs.Common.{arith, take, length-take-le}
 use Rattle.std.proofs.lemmas.List.{length-take}
 use Rattle.records.proofs.Listing.{few, listed_more, listed_on, all_listed}
 use Rattle.records.proofs.Rising.{rising}

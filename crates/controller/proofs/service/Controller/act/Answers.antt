@@ -1,6 +1,7 @@
 use Rattle.std.proofs.Common.{◌+◌, cond, leb, length, is_ok, sym, refl, ap, ◌∙◌}
 use Rattle.rack.specs.Face.{has}
 use Rattle.controller.specs.Due.{view, group_at, face_due, sign_group}
+use Rattle.controller.specs.Site.{groups_of}
 use Rattle.controller.specs.Run.{answer, is_made, step, moves, memory_after, with_report, faults_after}
 use Rattle.controller.proofs.Reports.{report-state}
 use Rattle.controller.proofs.service.Controller.act.Goals as goal
@@ -19,7 +20,7 @@ returns-in-Report g c =
         site = ap (λ x. x.site) e.after;
         state = λ k. ap (view k) e.after
             ∙ (ap (λ r. record { common = cond (is_ok r) (with_report sign code ctl.common) ctl.common; group = group_at ctl.groups k }) e.result
-            ∙ (report-state (view k ctl) sign code (leb 20 lent) (has (length ctl.site.sign_groups) sign)
+            ∙ (report-state (view k ctl) sign code (leb 20 lent) (has (length (groups_of ctl.site)) sign)
             ∙ sym (ap (λ x. cond (is_made lent x) (step ctl.site (view k ctl) x) (view k ctl)) is)));
         attached = λ k h. sym (ap (λ x. cond (moves x) (face_due (view (sign_group ctl k) c.report.new.self) (g.R.Rack.takes c.args.rack.now (k + 1))) (g.R.Rack.face c.args.rack.now (k + 1))) is);
         others = λ k h. refl;
