@@ -49,6 +49,31 @@ fn worked_packet(rt: HostRuntime) -> Result<(), Fail> {
     }
 }
 
+// What holds a packet is copied like a number.
+#[derive(Clone, Copy)]
+struct Received {
+    packet: Packet,
+    at: u8,
+}
+
+fn number(received: Received) -> u8 {
+    received.packet.number
+}
+
+#[test]
+fn copied_packet(rt: HostRuntime) -> Result<(), Fail> {
+    match Packet::read(b"\x012A01\x020E0105749C\x03") {
+        Some(packet) => {
+            let received = Received { packet, at: 7 };
+            assert_eq!(rt; number(received), 0x2A);
+            assert_eq!(rt; number(received), 0x2A);
+            assert_eq!(rt; received.at, 7);
+            Ok(())
+        }
+        None => Err(Fail::new("not read")),
+    }
+}
+
 #[test]
 fn nothing_to_write(rt: HostRuntime) {
     let mut out = [0xEE; 16];

@@ -1,10 +1,11 @@
 -- The command of a record is the very message that set it.
 use Rattle.std.proofs.Common.{◌≡◌, ℕ, zero, suc, ◌+◌, ◌-◌, ◌*◌, ◌/◌, ◌%◌, ◌≤◌, true, ◌&&◌, eqb, leb, List, [], ◌∷◌, ◌++◌, map, length, get_or, take, drop, refl, ap, ◌∙◌, mul-le-mul, append-nil, arith}
-use Rattle.std.proofs.lemmas.List.{take-append-drop, drop_more, drop_all, drop-drop, length-take-le, length-drop, take_all}
+use Rattle.std.proofs.lemmas.List.{take-append-drop, drop_more, drop_all, drop-drop, length-take-le, length-drop, take_all, take_at}
 use Rattle.std.proofs.Math.Nat.{mod-eq_of_lt}
 use Rattle.std.proofs.lemmas.Bool.{cond_both, eqb-true, and_parts}
 use Rattle.std.proofs.lemmas.Bool.Decides.{nat_tests}
 use Rattle.std.specs.List.{flat_map, list_all}
+use Rattle.std.specs.Prelude.{replicate}
 use Rattle.commands.specs.declared.command.Order.{Order}
 use Rattle.commands.specs.declared.command.Order.TheVariants.{Reset, Frame, Message, EnablePlan, DisablePlan, Power, Enable}
 use Rattle.commands.specs.declared.lists.Line.{Line}
@@ -13,8 +14,7 @@ use Rattle.commands.specs.Orders.{code_of}
 use Rattle.commands.specs.Sent.{Sent, start_session, password, heartbeat, end_session, set_time, group_order, enabled_plans, stored_record, fault_log, empty_fault_log, order_log, readings, list_stored, refused, exactly, coded, word_at, stride, line_at, lines_at, order_form, text_form, graphic_form, message_form, plan_form, parsed}
 use Rattle.fitness.specs.Fitness.{fit, text_fits, graphic_fits, filled_line, blank_line, listed, listed_from}
 use Rattle.records.specs.AnyRecords.{record_of, Bytes, GivesBack}
-use Rattle.octets.proofs.Alike.{held-stretch}
-use Rattle.records.specs.Frames.{text_frame, graphic_frame, frame_bytes}
+use Rattle.records.specs.Frames.{pictured, counted, text_frame, graphic_frame, frame_bytes}
 use Rattle.records.specs.Messages.{message_bytes}
 use Rattle.records.specs.Plans.{entry_of, line_of, plan_of, plan_bytes}
 use Rattle.records.specs.Writing.{word_bytes, command_of}
@@ -39,6 +39,16 @@ body_back m from size b n =
     let r = drop_more m (from + size) 0 (omega arith) in
     let s = drop_more m (from + size + 1) 0 (omega arith) in
     let z = drop_all (from + size + 1 + 1) m (omega arith) in cc
+
+-- what is kept of up to 128 bytes
+kept_back : (bs : List ℕ) → length bs ≤ 128 → (take (counted bs) (pictured bs) ≡ bs) × (counted bs ≡ length bs)
+kept_back bs h =
+    let e = take_all 128 bs h in
+    let n : counted bs ≡ length bs = ap length e in (
+      ap (λ (k : ℕ). take k (pictured bs)) n ∙ ap (λ (xs : List ℕ). take (length bs) (xs ++ replicate (128 - length xs) 0)) e
+          ∙ take_at bs (replicate (128 - length bs) 0) (length bs) refl,
+      n,
+    )
 
 -- the places of a list from the i-th on
 abbrev places : ℕ → ℕ → List ℕ → List ℕ
@@ -67,8 +77,8 @@ text-back m b z =
     let n : length m ≡ 9 + get_or m 6 0 = eqb-true _ _ e in
     let d : length (drop 7 m) ≡ length m - 7 = length-drop 7 m in
     let l : length (take (get_or m 6 0) (drop 7 m)) ≡ get_or m 6 0 = length-take-le (get_or m 6 0) (drop 7 m) (omega arith) in
-    let k = take_all 128 (take (get_or m 6 0) (drop 7 m)) (text-count (get_or m 1 0) (get_or m 5 0) (take (get_or m 6 0) (drop 7 m)) f) in
-    let h = held-stretch 128 (take (get_or m 6 0) (drop 7 m)) ∙ k in
+    let k = kept_back (take (get_or m 6 0) (drop 7 m)) (text-count (get_or m 1 0) (get_or m 5 0) (take (get_or m 6 0) (drop 7 m)) f) in
+    let k₀ = k.0 in let k₁ = k.1 in
     let r = body_back m 7 (get_or m 6 0) b (omega arith) in
     let q = front 7 0 m (omega arith) in cc)
     (λ _ _. tt)
@@ -88,7 +98,8 @@ graphic-back m b z =
     let d : length (drop 6 m) ≡ length m - 6 = length-drop 6 m in
     let l : length (take (get_or m 3 0 * stride (get_or m 4 0)) (drop 6 m)) ≡ get_or m 3 0 * stride (get_or m 4 0) =
     length-take-le (get_or m 3 0 * stride (get_or m 4 0)) (drop 6 m) (omega arith) in
-    let k = held-stretch 128 (take (get_or m 3 0 * stride (get_or m 4 0)) (drop 6 m)) ∙ take_all 128 (take (get_or m 3 0 * stride (get_or m 4 0)) (drop 6 m)) (omega arith) in
+    let k = kept_back (take (get_or m 3 0 * stride (get_or m 4 0)) (drop 6 m)) (omega arith) in
+    let k₀ = k.0 in let k₁ = k.1 in
     let r = body_back m 6 (get_or m 3 0 * stride (get_or m 4 0)) b (omega arith) in
     let q = front 6 0 m (omega arith) in cc)
     (λ _ _. tt)

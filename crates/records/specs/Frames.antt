@@ -1,6 +1,5 @@
 -- Frames: what is kept of a text or a graphic, the face that it makes, and the command that it came by.
-use Rattle.std.specs.Prelude.{ℕ, List, [], ◌∷◌, length, take}
-use Rattle.octets.specs.Held.{held, stretch}
+use Rattle.std.specs.Prelude.{ℕ, ◌-◌, List, [], ◌∷◌, ◌++◌, length, take, replicate}
 use Rattle.commands.specs.declared.command.Header.{Header}
 use Rattle.rack.specs.declared.look.Kind.{Kind}
 use Rattle.rack.specs.declared.look.Kind.TheVariants.{Text, Graphic}
@@ -9,27 +8,32 @@ use Rattle.rack.specs.Face.{Face, lit, shape_of}
 use Rattle.records.specs.declared.frame.Frame.{Frame}
 use Rattle.records.specs.Writing.{command_of}
 
--- up to 128 bytes are kept
+-- up to 128 bytes, and zeros behind them
 abbrev pub pictured : List ℕ → List ℕ
-pictured bs = take 128 bs
+pictured bs = take 128 bs ++ replicate (128 - length (take 128 bs)) 0
+
+abbrev pub counted : List ℕ → ℕ
+counted bs = length (take 128 bs)
 
 unfoldable pub text_frame : Header → ℕ → ℕ → ℕ → List ℕ → Frame
 text_frame h font colour b t = record {
   header = h;
-  look = record { kind = Text; rows = 1; columns = length (pictured t); font = font; colour = colour; conspicuity = b };
-  picture = stretch 128 t;
+  look = record { kind = Text; rows = 1; columns = counted t; font = font; colour = colour; conspicuity = b };
+  length = counted t;
+  picture = pictured t;
 }
 
 unfoldable pub graphic_frame : Header → ℕ → ℕ → ℕ → List ℕ → Frame
 graphic_frame h rows columns b p = record {
   header = h;
   look = record { kind = Graphic; rows = rows; columns = columns; font = 0; colour = 0; conspicuity = b };
-  picture = stretch 128 p;
+  length = counted p;
+  picture = pictured p;
 }
 
 -- the bytes that a sign is given
 abbrev pub shown : Frame → List ℕ
-shown f = held f.picture
+shown f = take f.length f.picture
 
 abbrev pub frame_face : Frame → Face
 frame_face f = lit f.look (shown f)
